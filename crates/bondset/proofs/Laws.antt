@@ -1,0 +1,184 @@
+-- Laws of digits, sums and sizes of sets. Assumes nothing.
+use mathlib.Core.Path.{_≡_, refl, sym, ap, ap₂, _∙_, subst}
+use mathlib.Core.Logic.{_⊎_, inl, inr}
+use Prim.Native.Nat.{ℕ, zero, suc, _+_, _-_, _*_, _/_, _%_, _^_, _≤_, _<_, zero-le, suc-le-suc, min}
+use lib.Dec.{eqb, eqb·suc-zero}
+use borrow.Author.Tests.{eq-eqb, ne-eqb}
+use native.Mathlib.Nat.{suc-mul, zero-mul, zero-div, mod-lt, mod-eq-of-lt, zero-lt-suc, le-of-suc-le-suc, not-suc-le-zero, one-mul}
+use native.Mathlib.Numerals.{add-one, one-add}
+use native.Mathlib.Omega.{arith}
+use native.Mathlib.Decide.{decLt}
+use lib.Arith.{digits-lt, bin-ind, digits-mod, digits-div, lt-one}
+use lib.Pow.{shr-lt, pow-pos, pow-lt, pow-add, high, low, field, mod-pow-add, mod-mod-pow, shr-shr, shl-shr}
+use lib.Bits.{bitXor, bitAnd, differ, xor-step, and-step, xor-shr, and-mask}
+use lib.Count.{ones, ones-step, ones-cat, trailingZeros, under}
+use Rattle.bondset.specs.Sets.{bit, lengthTo}
+
+two-pos : zero < 2
+two-pos = zero-lt-suc 1
+
+pub cases2 : (P : ℕ → Type 0) → P 0 → P 1 → (x : ℕ) → x < 2 → P x
+cases2 P p q zero h = p
+cases2 P p q (suc zero) h = q
+cases2 P p q (suc (suc x)) h = absurd (not-suc-le-zero (le-of-suc-le-suc (le-of-suc-le-suc h)))
+
+pub bit-lt : (s k : ℕ) → bit s k < 2
+bit-lt s k = mod-lt (s / 2 ^ k) two-pos
+
+differ-lt : (x y : ℕ) → x < 2 → y < 2 → differ x y < 2
+differ-lt x y hx hy =
+    cases2 (λ (x : ℕ). differ x y < 2) hy (cases2 (λ (y : ℕ). differ 1 y < 2) (omega arith) (omega arith) y hy) x hx
+
+-- ---- membership of a sum
+pub bit-xor : (a b k : ℕ) → bit (bitXor a b) k ≡ differ (bit a k) (bit b k)
+bit-xor a b k =
+    ap (λ (x : ℕ). x % 2) (xor-shr a b k ∙ xor-step (a / 2 ^ k) (b / 2 ^ k))
+    ∙ digits-mod _ (differ-lt (bit a k) (bit b k) (bit-lt a k) (bit-lt b k))
+
+-- ---- extensionality
+pub ext-mod : (n a b : ℕ) → ((k : ℕ) → k < n → bit a k ≡ bit b k) → a % 2 ^ n ≡ b % 2 ^ n
+ext-mod zero a b h = lt-one (mod-lt a (pow-pos 0)) ∙ sym (lt-one (mod-lt b (pow-pos 0)))
+ext-mod (suc n) a b h =
+    rw (← one-add n, mod-pow-add a 1 n, mod-pow-add b 1 n)
+    (ap₂ (λ (x y : ℕ). x * 2 ^ n + y) (h n (omega arith)) (ext-mod n a b (λ k l. h k (omega arith))))
+
+pub ext : (n a b : ℕ) → a < 2 ^ n → b < 2 ^ n → ((k : ℕ) → k < n → bit a k ≡ bit b k) → a ≡ b
+ext n a b ha hb h = sym (mod-eq-of-lt ha) ∙ ext-mod n a b h ∙ mod-eq-of-lt hb
+
+-- ---- the sum is associative
+differ-assoc : (x y z : ℕ) → x < 2 → y < 2 → z < 2 → differ (differ x y) z ≡ differ x (differ y z)
+differ-assoc x y z hx hy hz =
+    cases2 (λ (x : ℕ). differ (differ x y) z ≡ differ x (differ y z)) refl
+    (cases2 (λ (y : ℕ). differ (differ 1 y) z ≡ differ 1 (differ y z)) refl
+    (cases2 (λ (z : ℕ). differ (differ 1 1) z ≡ differ 1 (differ 1 z)) refl refl z hz) y hy) x hx
+
+xor-odd : (a b : ℕ) → bitXor a b % 2 ≡ differ (a % 2) (b % 2)
+xor-odd a b = ap (λ (x : ℕ). x % 2) (xor-step a b) ∙ digits-mod _ (differ-lt (a % 2) (b % 2) (mod-lt a two-pos) (mod-lt b two-pos))
+
+pub xor-assoc : (a b c : ℕ) → bitXor (bitXor a b) c ≡ bitXor a (bitXor b c)
+xor-assoc a =
+    bin-ind (λ (n : ℕ). (b c : ℕ) → bitXor (bitXor n b) c ≡ bitXor n (bitXor b c)) (λ b c. refl)
+    (λ n ih b c. xor-step (bitXor n b) c
+    ∙ ap₂ (λ (x y : ℕ). bitXor x (c / 2) * 2 + differ y (c % 2)) (xor-shr n b 1) (xor-odd n b)
+    ∙ ap₂ (λ (x y : ℕ). x * 2 + y) (ih (b / 2) (c / 2)) (differ-assoc (n % 2) (b % 2) (c % 2) (mod-lt n two-pos) (mod-lt b two-pos) (mod-lt c two-pos))
+    ∙ ap₂ (λ (x y : ℕ). bitXor (n / 2) x * 2 + differ (n % 2) y) (sym (xor-shr b c 1)) (sym (xor-odd b c))
+    ∙ sym (xor-step n (bitXor b c))) a
+
+-- ---- sizes
+ones-bit : (r : ℕ) → r < 2 → ones r ≡ r
+unfolding ones
+ones-bit r h = cases2 (λ (r : ℕ). ones r ≡ r) refl refl r h
+
+ones-digit : (q d : ℕ) → d < 2 → ones (q * 2 + d) ≡ ones q + d
+ones-digit q d h = ones-cat 1 q d h ∙ ap (λ (x : ℕ). ones q + x) (ones-bit d h)
+
+differ-min : (x y : ℕ) → x < 2 → y < 2 → differ x y + 2 * min x y ≡ x + y
+differ-min x y hx hy =
+    cases2 (λ (x : ℕ). differ x y + 2 * min x y ≡ x + y)
+    (cases2 (λ (y : ℕ). differ 0 y + 2 * min 0 y ≡ 0 + y) refl refl y hy)
+    (cases2 (λ (y : ℕ). differ 1 y + 2 * min 1 y ≡ 1 + y) refl refl y hy) x hx
+
+min-lt : (x y : ℕ) → x < 2 → min x y < 2
+min-lt x y h = omega arith
+
+-- the members of both are counted twice
+pub ones-xor : (a b : ℕ) → ones (bitXor a b) + 2 * ones (bitAnd a b) ≡ ones a + ones b
+ones-xor a =
+    bin-ind (λ (n : ℕ). (b : ℕ) → ones (bitXor n b) + 2 * ones (bitAnd n b) ≡ ones n + ones b) (λ b. omega (arith, ap (λ (x : ℕ). 2 * x) (ones-bit 0 (zero-lt-suc 1)), ones-bit 0 (zero-lt-suc 1)))
+    (λ n ih b.
+    let hx = mod-lt n two-pos in let hy = mod-lt b two-pos in
+    let e1 = ap ones (xor-step n b) ∙ ones-digit (bitXor (n / 2) (b / 2)) (differ (n % 2) (b % 2)) (differ-lt _ _ hx hy) in
+    let e2 = ap ones (and-step n b) ∙ ones-digit (bitAnd (n / 2) (b / 2)) (min (n % 2) (b % 2)) (min-lt _ _ hx) in
+    omega (arith, e1, e2, ones-step n, ones-step b, ih (b / 2), differ-min (n % 2) (b % 2) hx hy)) a
+
+pub ones-xor-le : (a b : ℕ) → ones (bitXor a b) ≤ ones a + ones b
+ones-xor-le a b = omega (arith, ones-xor a b)
+
+pub ones-xor-parity : (a b : ℕ) → ones (bitXor a b) % 2 ≡ (ones a + ones b) % 2
+ones-xor-parity a b = omega (arith, ones-xor a b)
+
+pub lengthTo-ones : (n s : ℕ) → lengthTo n s ≡ ones (s % 2 ^ n)
+unfolding lengthTo
+lengthTo-ones zero s = sym (ap ones (lt-one (mod-lt s (pow-pos 0))) ∙ ones-bit 0 two-pos)
+lengthTo-ones (suc n) s =
+    ap (λ (x : ℕ). bit s n + x) (lengthTo-ones n s)
+    ∙ ap (λ (x : ℕ). x + ones (s % 2 ^ n)) (sym (ones-bit (bit s n) (bit-lt s n)))
+    ∙ sym (ones-cat n (bit s n) (s % 2 ^ n) (mod-lt s (pow-pos n)))
+    ∙ ap ones (sym (mod-pow-add s 1 n) ∙ ap (λ (x : ℕ). s % 2 ^ x) (one-add n))
+
+pub length-ones : (n s : ℕ) → s < 2 ^ n → lengthTo n s ≡ ones s
+length-ones n s h = lengthTo-ones n s ∙ ap ones (mod-eq-of-lt h)
+
+-- ---- digits of a number of two words
+pub bit-low : (j s k : ℕ) → bit (s % 2 ^ (j + (1 + k))) k ≡ bit s k
+bit-low j s k =
+    sym (field (s % 2 ^ (j + (1 + k))) 1 k) ∙ ap (λ (x : ℕ). x / 2 ^ k) (mod-mod-pow s j (1 + k)) ∙ field s 1 k
+
+module _ (w hi lo : ℕ) (hl : lo < 2 ^ w) where
+  pub bit-word-lo : (k : ℕ) → k < w → bit (hi * 2 ^ w + lo) k ≡ bit lo k
+  bit-word-lo k h =
+      let e : (w - (1 + k)) + (1 + k) ≡ w = omega arith in
+      sym (bit-low (w - (1 + k)) (hi * 2 ^ w + lo) k)
+      ∙ ap (λ (x : ℕ). bit ((hi * 2 ^ w + lo) % 2 ^ x) k) e
+      ∙ ap (λ (x : ℕ). bit x k) (low hi w hl)
+
+  pub bit-word-hi : (k : ℕ) → w ≤ k → bit (hi * 2 ^ w + lo) k ≡ bit hi (k - w)
+  bit-word-hi k h =
+      let e : k ≡ w + (k - w) = omega arith in
+      ap (λ (x : ℕ). (hi * 2 ^ w + lo) / 2 ^ x % 2) e
+      ∙ ap (λ (x : ℕ). x % 2) (sym (shr-shr (hi * 2 ^ w + lo) w (k - w)))
+      ∙ ap (λ (x : ℕ). x / 2 ^ (k - w) % 2) (high hi w hl)
+
+-- ---- the lowest digit that is set
+pub bit-suc : (s k : ℕ) → bit s (suc k) ≡ bit (s / 2) k
+bit-suc s k = ap (λ (x : ℕ). s / 2 ^ x % 2) (sym (one-add k)) ∙ ap (λ (x : ℕ). x % 2) (sym (shr-shr s 1 k))
+
+pub bit-zero : (s : ℕ) → bit s 0 ≡ s % 2
+bit-zero s = omega arith
+
+pub zero-bit : (k : ℕ) → bit 0 k ≡ 0
+zero-bit k = ap (λ (x : ℕ). x % 2) (zero-div (2 ^ k))
+
+pub record Trailing (k x t : ℕ) : Type 0 where
+  pub here : bit x t ≡ 1
+  pub below : (j : ℕ) → j < t → bit x j ≡ 0
+  pub small : t < k
+
+pub trailing : (k x : ℕ) → 0 < x → x < 2 ^ k → Trailing k x (trailingZeros k x)
+unfolding trailingZeros
+trailing zero x p h = absurd (omega arith)
+trailing (suc k) x p h = go (x % 2) refl (λ q. trailing k (x / 2) q (shr-lt k 1 (rw add-one h)))
+  where
+    go : (d : ℕ) → x % 2 ≡ d → (0 < x / 2 → Trailing k (x / 2) (trailingZeros k (x / 2))) → Trailing (suc k) x (under d (trailingZeros k (x / 2)))
+    go zero e ih =
+        let r = ih (omega arith) in
+        record {
+          here = bit-suc x (trailingZeros k (x / 2)) ∙ r .here;
+          below = elim [ zero ↦ λ l. bit-zero x ∙ e | suc j ↦ λ l. bit-suc x j ∙ r .below j (omega arith) ];
+          small = suc-le-suc (r .small);
+        }
+    go (suc d) e ih = record { here = omega (arith, bit-zero x, mod-lt x two-pos); below = λ j l. absurd (omega arith); small = omega arith }
+
+pub words-lt : (w hi lo : ℕ) → hi < 2 ^ w → lo < 2 ^ w → hi * 2 ^ w + lo < 2 ^ (w + w)
+words-lt w hi lo hh hl = subst (λ (x : ℕ). hi * 2 ^ w + lo < x) (sym (pow-add 2 w w)) (digits-lt hh hl)
+
+pub lt-or-ge : (m n : ℕ) → (m < n) ⊎ (n ≤ m)
+lt-or-ge m n = elim (decLt m n) [ yes p ↦ inl p | no q ↦ inr (omega arith) ]
+
+pub pos-of-ne : (n : ℕ) → (n ≡ 0 → ⊥) → 0 < n
+pos-of-ne n h = omega arith
+
+pub hi-pos : (w hi lo : ℕ) → 0 < hi * 2 ^ w + lo → lo ≡ 0 → 0 < hi
+hi-pos w zero lo h e = absurd (omega (arith, zero-mul (2 ^ w)))
+hi-pos w (suc hi) lo h e = zero-lt-suc hi
+
+pub lo-zero : (p lo : ℕ) → p + lo ≡ 0 → lo ≡ 0
+lo-zero p lo e = omega arith
+
+pub word-zero : (w hi lo : ℕ) → lo ≡ 0 → eqb hi 0 ≡ eqb (hi * 2 ^ w + lo) 0
+word-zero w zero lo e = sym (eq-eqb (0 * 2 ^ w + lo) 0 (omega (arith, zero-mul (2 ^ w))))
+word-zero w (suc hi) lo e =
+    eqb·suc-zero hi ∙ sym (ne-eqb (suc hi * 2 ^ w + lo) 0 (λ z. omega (arith, suc-mul hi (2 ^ w), pow-pos w)))
+
+pub scale-lt : (n x b : ℕ) → x < n → b < 2 → x * b < n
+scale-lt n x b hx hb = cases2 (λ (b : ℕ). x * b < n) (omega arith) (omega arith) b hb

@@ -1,0 +1,2 @@
+-- The definitions that bondset's contracts cite.
+pub mod Sets

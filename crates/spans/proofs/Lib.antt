@@ -1,0 +1,11 @@
+pub mod Xor
+pub mod Lists
+pub mod Span
+pub mod Indep
+pub mod Steinitz
+pub mod Graded
+pub mod Interchange
+pub mod Minimum
+pub mod Classes
+pub mod Greedy
+pub mod Profile
