@@ -1,0 +1,7 @@
+pub mod Count
+pub mod Graph
+pub mod Walk
+pub mod Ring
+pub mod Distance
+pub mod AtomList
+pub mod Number
