@@ -1,22 +1,28 @@
--- Laws of digits, sums and sizes of sets. Assumes nothing.
+-- Laws of bond sets as numbers: membership, equality, sums, lengths, the lowest bond, and the bits of a number of two words.
 use mathlib.Core.Path.{_≡_, refl, sym, ap, ap₂, _∙_, subst}
-use mathlib.Core.Logic.{_⊎_, inl, inr}
-use Prim.Native.Nat.{ℕ, zero, suc, _+_, _-_, _*_, _/_, _%_, _^_, _≤_, _<_, zero-le, suc-le-suc, min}
-use lib.Dec.{eqb, eqb·suc-zero}
-use borrow.Author.Tests.{eq-eqb, ne-eqb}
-use native.Mathlib.Nat.{suc-mul, zero-mul, zero-div, mod-lt, mod-eq-of-lt, zero-lt-suc, le-of-suc-le-suc, not-suc-le-zero, one-mul}
+use mathlib.Core.Logic.{_⊎_, inl, inr, ⊎-elim}
+use Prim.Native.Nat.{ℕ, zero, suc, _+_, _-_, _*_, _/_, _%_, _^_, _≤_, _<_, suc-le-suc, min}
+use native.Mathlib.Nat.{zero-div, mod-lt, mod-eq-of-lt, zero-lt-suc, le-of-suc-le-suc, not-suc-le-zero, div-eq-of-lt, div-self, lt-of-lt-of-le, mul-mod-left, pow-suc}
 use native.Mathlib.Numerals.{add-one, one-add}
 use native.Mathlib.Omega.{arith}
 use native.Mathlib.Decide.{decLt}
-use lib.Arith.{digits-lt, bin-ind, digits-mod, digits-div, lt-one}
-use lib.Pow.{shr-lt, pow-pos, pow-lt, pow-add, high, low, field, mod-pow-add, mod-mod-pow, shr-shr, shl-shr}
-use lib.Bits.{bitXor, bitAnd, differ, xor-step, and-step, xor-shr, and-mask}
+use borrow.Author.Tests.{lt-ltb, le-ltb}
+use lib.Arith.{digits-lt, bin-ind, digits-mod, lt-one}
+use lib.Pow.{shr-lt, shl-shr, pow-pos, pow-lt, pow-mono, pow-add, high, low, field, mod-pow-add, mod-mod-pow, shr-shr}
+use lib.Bits.{bitXor, bitAnd, differ, xor-step, and-step, xor-shr, and-shr}
 use lib.Count.{ones, ones-step, ones-cat, trailingZeros, under}
-use Rattle.bondset.specs.Sets.{bit, lengthTo}
+use Rattle.bondset.specs.Sets.{bit, single, lengthTo, Lowest}
 
 two-pos : zero < 2
 two-pos = zero-lt-suc 1
 
+pub lt-or-ge : (m n : ℕ) → (m < n) ⊎ (n ≤ m)
+lt-or-ge m n = elim (decLt m n) [ yes p ↦ inl p | no q ↦ inr (omega arith) ]
+
+pub pos-of-ne : (n : ℕ) → (n ≡ 0 → ⊥) → 0 < n
+pos-of-ne n h = omega arith
+
+-- what holds of 0 and of 1 holds of a bit
 pub cases2 : (P : ℕ → Type 0) → P 0 → P 1 → (x : ℕ) → x < 2 → P x
 cases2 P p q zero h = p
 cases2 P p q (suc zero) h = q
@@ -29,14 +35,46 @@ differ-lt : (x y : ℕ) → x < 2 → y < 2 → differ x y < 2
 differ-lt x y hx hy =
     cases2 (λ (x : ℕ). differ x y < 2) hy (cases2 (λ (y : ℕ). differ 1 y < 2) (omega arith) (omega arith) y hy) x hx
 
--- ---- membership of a sum
+min-lt : (x y : ℕ) → x < 2 → min x y < 2
+min-lt x y h = omega arith
+
+-- ---- membership: of the empty set, of a sum, of an intersection, of a single bond, and beyond the last bond
+
+pub zero-bit : (k : ℕ) → bit 0 k ≡ 0
+zero-bit k = ap (λ (x : ℕ). x % 2) (zero-div (2 ^ k))
+
 pub bit-xor : (a b k : ℕ) → bit (bitXor a b) k ≡ differ (bit a k) (bit b k)
 bit-xor a b k =
     ap (λ (x : ℕ). x % 2) (xor-shr a b k ∙ xor-step (a / 2 ^ k) (b / 2 ^ k))
     ∙ digits-mod _ (differ-lt (bit a k) (bit b k) (bit-lt a k) (bit-lt b k))
 
--- ---- extensionality
-pub ext-mod : (n a b : ℕ) → ((k : ℕ) → k < n → bit a k ≡ bit b k) → a % 2 ^ n ≡ b % 2 ^ n
+pub bit-and : (a b k : ℕ) → bit (bitAnd a b) k ≡ min (bit a k) (bit b k)
+bit-and a b k =
+    ap (λ (x : ℕ). x % 2) (and-shr a b k ∙ and-step (a / 2 ^ k) (b / 2 ^ k)) ∙ digits-mod _ (min-lt (bit a k) (bit b k) (bit-lt a k))
+
+pub bit-pow-same : (k : ℕ) → bit (2 ^ k) k ≡ 1
+bit-pow-same k = ap (λ (x : ℕ). x % 2) (div-self (pow-pos k))
+
+pub bit-pow-other : (j k : ℕ) → (j ≡ k → ⊥) → bit (2 ^ j) k ≡ 0
+bit-pow-other j k ne = ⊎-elim (λ (h : j < k). ap (λ (x : ℕ). x % 2) (div-eq-of-lt (pow-lt h))) (λ (h : k ≤ j). above (j - suc k) (omega arith)) (lt-or-ge j k)
+  where
+    above : (m : ℕ) → j ≡ suc m + k → bit (2 ^ j) k ≡ 0
+    above m e = rw (e, pow-add, shl-shr, pow-suc) (mul-mod-left (2 ^ m) 2)
+
+pub bit-beyond : (n s k : ℕ) → s < 2 ^ n → n ≤ k → bit s k ≡ 0
+bit-beyond n s k h l = ap (λ (x : ℕ). x % 2) (div-eq-of-lt (lt-of-lt-of-le h (pow-mono l)))
+
+pub single-below : (k : ℕ) → k < 128 → single k ≡ 2 ^ k
+unfolding single
+single-below k h = simp (lt-ltb k 128 h)
+
+pub single-beyond : (k : ℕ) → 128 ≤ k → single k ≡ 0
+unfolding single
+single-beyond k h = simp (le-ltb k 128 h)
+
+-- ---- equal members, equal number
+
+ext-mod : (n a b : ℕ) → ((k : ℕ) → k < n → bit a k ≡ bit b k) → a % 2 ^ n ≡ b % 2 ^ n
 ext-mod zero a b h = lt-one (mod-lt a (pow-pos 0)) ∙ sym (lt-one (mod-lt b (pow-pos 0)))
 ext-mod (suc n) a b h =
     rw (← one-add n, mod-pow-add a 1 n, mod-pow-add b 1 n)
@@ -46,6 +84,7 @@ pub ext : (n a b : ℕ) → a < 2 ^ n → b < 2 ^ n → ((k : ℕ) → k < n →
 ext n a b ha hb h = sym (mod-eq-of-lt ha) ∙ ext-mod n a b h ∙ mod-eq-of-lt hb
 
 -- ---- the sum is associative
+
 differ-assoc : (x y z : ℕ) → x < 2 → y < 2 → z < 2 → differ (differ x y) z ≡ differ x (differ y z)
 differ-assoc x y z hx hy hz =
     cases2 (λ (x : ℕ). differ (differ x y) z ≡ differ x (differ y z)) refl
@@ -64,7 +103,8 @@ xor-assoc a =
     ∙ ap₂ (λ (x y : ℕ). bitXor (n / 2) x * 2 + differ (n % 2) y) (sym (xor-shr b c 1)) (sym (xor-odd b c))
     ∙ sym (xor-step n (bitXor b c))) a
 
--- ---- sizes
+-- ---- lengths
+
 ones-bit : (r : ℕ) → r < 2 → ones r ≡ r
 unfolding ones
 ones-bit r h = cases2 (λ (r : ℕ). ones r ≡ r) refl refl r h
@@ -78,9 +118,6 @@ differ-min x y hx hy =
     (cases2 (λ (y : ℕ). differ 0 y + 2 * min 0 y ≡ 0 + y) refl refl y hy)
     (cases2 (λ (y : ℕ). differ 1 y + 2 * min 1 y ≡ 1 + y) refl refl y hy) x hx
 
-min-lt : (x y : ℕ) → x < 2 → min x y < 2
-min-lt x y h = omega arith
-
 -- the members of both are counted twice
 pub ones-xor : (a b : ℕ) → ones (bitXor a b) + 2 * ones (bitAnd a b) ≡ ones a + ones b
 ones-xor a =
@@ -91,12 +128,24 @@ ones-xor a =
     let e2 = ap ones (and-step n b) ∙ ones-digit (bitAnd (n / 2) (b / 2)) (min (n % 2) (b % 2)) (min-lt _ _ hx) in
     omega (arith, e1, e2, ones-step n, ones-step b, ih (b / 2), differ-min (n % 2) (b % 2) hx hy)) a
 
-pub ones-xor-le : (a b : ℕ) → ones (bitXor a b) ≤ ones a + ones b
-ones-xor-le a b = omega (arith, ones-xor a b)
+-- the same, of the members below n
+pub length-sum : (n a b : ℕ) → lengthTo n (bitXor a b) + 2 * lengthTo n (bitAnd a b) ≡ lengthTo n a + lengthTo n b
+unfolding lengthTo
+length-sum zero a b = refl
+length-sum (suc n) a b =
+    omega (arith, length-sum n a b, bit-xor a b n, bit-and a b n, differ-min (bit a n) (bit b n) (bit-lt a n) (bit-lt b n))
 
-pub ones-xor-parity : (a b : ℕ) → ones (bitXor a b) % 2 ≡ (ones a + ones b) % 2
-ones-xor-parity a b = omega (arith, ones-xor a b)
+-- a set of length 0 has no member
+pub bit-of-length-zero : (n s : ℕ) → lengthTo n s ≡ 0 → (k : ℕ) → k < n → bit s k ≡ 0
+unfolding lengthTo
+bit-of-length-zero zero s e k h = absurd (omega arith)
+bit-of-length-zero (suc n) s e k h =
+    ⊎-elim (λ (l : k < n). bit-of-length-zero n s (omega arith) k l) (λ (l : n ≤ k). let q : k ≡ n = omega arith in rw q (omega arith)) (lt-or-ge k n)
 
+pub zero-of-length-zero : (n s : ℕ) → lengthTo n s ≡ 0 → s < 2 ^ n → s ≡ 0
+zero-of-length-zero n s e h = ext n s 0 h (pow-pos n) (λ k l. bit-of-length-zero n s e k l ∙ sym (zero-bit k))
+
+-- the language's count of ones counts the members
 pub lengthTo-ones : (n s : ℕ) → lengthTo n s ≡ ones (s % 2 ^ n)
 unfolding lengthTo
 lengthTo-ones zero s = sym (ap ones (lt-one (mod-lt s (pow-pos 0))) ∙ ones-bit 0 two-pos)
@@ -109,36 +158,47 @@ lengthTo-ones (suc n) s =
 pub length-ones : (n s : ℕ) → s < 2 ^ n → lengthTo n s ≡ ones s
 length-ones n s h = lengthTo-ones n s ∙ ap ones (mod-eq-of-lt h)
 
--- ---- digits of a number of two words
+-- ---- the bits of a number of two words
+
 pub bit-low : (j s k : ℕ) → bit (s % 2 ^ (j + (1 + k))) k ≡ bit s k
 bit-low j s k =
     sym (field (s % 2 ^ (j + (1 + k))) 1 k) ∙ ap (λ (x : ℕ). x / 2 ^ k) (mod-mod-pow s j (1 + k)) ∙ field s 1 k
 
 module _ (w hi lo : ℕ) (hl : lo < 2 ^ w) where
+  pub field-word-lo : (m k : ℕ) → m + k ≤ w → (hi * 2 ^ w + lo) / 2 ^ k % 2 ^ m ≡ lo / 2 ^ k % 2 ^ m
+  field-word-lo m k h =
+      let e : (w - (m + k)) + (m + k) ≡ w = omega arith in
+      sym (field (hi * 2 ^ w + lo) m k)
+      ∙ ap (λ (x : ℕ). x / 2 ^ k) (sym (mod-mod-pow (hi * 2 ^ w + lo) (w - (m + k)) (m + k))
+      ∙ ap (λ (x : ℕ). (hi * 2 ^ w + lo) % 2 ^ x % 2 ^ (m + k)) e
+      ∙ ap (λ (x : ℕ). x % 2 ^ (m + k)) (low hi w hl))
+      ∙ field lo m k
+
+  pub shr-word-hi : (k : ℕ) → w ≤ k → (hi * 2 ^ w + lo) / 2 ^ k ≡ hi / 2 ^ (k - w)
+  shr-word-hi k h =
+      let e : k ≡ w + (k - w) = omega arith in
+      ap (λ (x : ℕ). (hi * 2 ^ w + lo) / 2 ^ x) e
+      ∙ sym (shr-shr (hi * 2 ^ w + lo) w (k - w))
+      ∙ ap (λ (x : ℕ). x / 2 ^ (k - w)) (high hi w hl)
+
   pub bit-word-lo : (k : ℕ) → k < w → bit (hi * 2 ^ w + lo) k ≡ bit lo k
-  bit-word-lo k h =
-      let e : (w - (1 + k)) + (1 + k) ≡ w = omega arith in
-      sym (bit-low (w - (1 + k)) (hi * 2 ^ w + lo) k)
-      ∙ ap (λ (x : ℕ). bit ((hi * 2 ^ w + lo) % 2 ^ x) k) e
-      ∙ ap (λ (x : ℕ). bit x k) (low hi w hl)
+  bit-word-lo k h = field-word-lo 1 k (omega arith)
 
   pub bit-word-hi : (k : ℕ) → w ≤ k → bit (hi * 2 ^ w + lo) k ≡ bit hi (k - w)
-  bit-word-hi k h =
-      let e : k ≡ w + (k - w) = omega arith in
-      ap (λ (x : ℕ). (hi * 2 ^ w + lo) / 2 ^ x % 2) e
-      ∙ ap (λ (x : ℕ). x % 2) (sym (shr-shr (hi * 2 ^ w + lo) w (k - w)))
-      ∙ ap (λ (x : ℕ). x / 2 ^ (k - w) % 2) (high hi w hl)
+  bit-word-hi k h = ap (λ (x : ℕ). x % 2) (shr-word-hi k h)
 
--- ---- the lowest digit that is set
+pub words-lt : (w hi lo : ℕ) → hi < 2 ^ w → lo < 2 ^ w → hi * 2 ^ w + lo < 2 ^ (w + w)
+words-lt w hi lo hh hl = subst (λ (x : ℕ). hi * 2 ^ w + lo < x) (sym (pow-add 2 w w)) (digits-lt hh hl)
+
+-- ---- the lowest bond
+
 pub bit-suc : (s k : ℕ) → bit s (suc k) ≡ bit (s / 2) k
 bit-suc s k = ap (λ (x : ℕ). s / 2 ^ x % 2) (sym (one-add k)) ∙ ap (λ (x : ℕ). x % 2) (sym (shr-shr s 1 k))
 
 pub bit-zero : (s : ℕ) → bit s 0 ≡ s % 2
 bit-zero s = omega arith
 
-pub zero-bit : (k : ℕ) → bit 0 k ≡ 0
-zero-bit k = ap (λ (x : ℕ). x % 2) (zero-div (2 ^ k))
-
+-- t is the lowest bond of x, and below k
 pub record Trailing (k x t : ℕ) : Type 0 where
   pub here : bit x t ≡ 1
   pub below : (j : ℕ) → j < t → bit x j ≡ 0
@@ -159,26 +219,5 @@ trailing (suc k) x p h = go (x % 2) refl (λ q. trailing k (x / 2) q (shr-lt k 1
         }
     go (suc d) e ih = record { here = omega (arith, bit-zero x, mod-lt x two-pos); below = λ j l. absurd (omega arith); small = omega arith }
 
-pub words-lt : (w hi lo : ℕ) → hi < 2 ^ w → lo < 2 ^ w → hi * 2 ^ w + lo < 2 ^ (w + w)
-words-lt w hi lo hh hl = subst (λ (x : ℕ). hi * 2 ^ w + lo < x) (sym (pow-add 2 w w)) (digits-lt hh hl)
-
-pub lt-or-ge : (m n : ℕ) → (m < n) ⊎ (n ≤ m)
-lt-or-ge m n = elim (decLt m n) [ yes p ↦ inl p | no q ↦ inr (omega arith) ]
-
-pub pos-of-ne : (n : ℕ) → (n ≡ 0 → ⊥) → 0 < n
-pos-of-ne n h = omega arith
-
-pub hi-pos : (w hi lo : ℕ) → 0 < hi * 2 ^ w + lo → lo ≡ 0 → 0 < hi
-hi-pos w zero lo h e = absurd (omega (arith, zero-mul (2 ^ w)))
-hi-pos w (suc hi) lo h e = zero-lt-suc hi
-
-pub lo-zero : (p lo : ℕ) → p + lo ≡ 0 → lo ≡ 0
-lo-zero p lo e = omega arith
-
-pub word-zero : (w hi lo : ℕ) → lo ≡ 0 → eqb hi 0 ≡ eqb (hi * 2 ^ w + lo) 0
-word-zero w zero lo e = sym (eq-eqb (0 * 2 ^ w + lo) 0 (omega (arith, zero-mul (2 ^ w))))
-word-zero w (suc hi) lo e =
-    eqb·suc-zero hi ∙ sym (ne-eqb (suc hi * 2 ^ w + lo) 0 (λ z. omega (arith, suc-mul hi (2 ^ w), pow-pos w)))
-
-pub scale-lt : (n x b : ℕ) → x < n → b < 2 → x * b < n
-scale-lt n x b hx hb = cases2 (λ (b : ℕ). x * b < n) (omega arith) (omega arith) b hb
+pub lowest : (n s : ℕ) → 0 < s → s < 2 ^ n → Lowest s (trailingZeros n s)
+lowest n s p h = let t = trailing n s p h in record { here = t .here; below = t .below }

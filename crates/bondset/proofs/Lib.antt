@@ -1,6 +1,9 @@
 -- Laws that belong to no one function.
 pub mod Laws
-pub mod Fold
-pub mod Lists
-pub mod Algebra
+pub mod Words
+pub mod Members
+pub mod Bytes
 pub mod Group
+pub mod ReductionTags
+pub mod ReductionModel
+pub mod ReductionTheorems

@@ -1,2 +1,4 @@
 -- The definitions that bondset's contracts cite.
 pub mod Sets
+pub mod Bytes
+pub mod Reduction

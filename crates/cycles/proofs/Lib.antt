@@ -1,0 +1,10 @@
+pub mod Carry
+pub mod Shorter
+pub mod Edges
+pub mod Arcs
+pub mod PathsDecide
+pub mod PathsWays
+pub mod PathsDown
+pub mod Families
+pub mod Dimension
+pub mod Few

@@ -28,7 +28,7 @@ last-head x k w end = rw same-refl
 last-head x k w (go j y p) = or-r (same w (last y p)) (heads (go j y p) (last y p)) (last-head w j y p)
 
 -- The closing bond is new where there are three atoms or more.
-close-fresh : (G : Graph) → Simple G → (k u w : ℕ) (p : Steps) → k < G .m → Joins G k u w → IsWalk G w p → last w p ≡ u → Distinct w p → 2 ≤ len p
+pub close-fresh : (G : Graph) → Simple G → (k u w : ℕ) (p : Steps) → k < G .m → Joins G k u w → IsWalk G w p → last w p ≡ u → Distinct w p → 2 ≤ len p
     → edges p k ≡ false
 close-fresh G Z k u w end l jn h e d le = absurd (omega arith)
 close-fresh G Z k u w (go j x end) l jn h e d le = absurd (omega arith)

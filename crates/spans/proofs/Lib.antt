@@ -9,3 +9,7 @@ pub mod Minimum
 pub mod Classes
 pub mod Greedy
 pub mod Profile
+pub mod Short
+pub mod Marking
+pub mod Replace
+pub mod Kernel

@@ -1,0 +1,117 @@
+-- The model of a reduction, one row at a time.
+use mathlib.Core.Path.{_≡_, sym, ap, ap₂, _∙_}
+use mathlib.Core.Bool.{true, false}
+use mathlib.Core.List.{List}
+use Prim.Native.Nat.{ℕ, suc, _+_, _-_, _*_, _/_, _%_, _^_, _≤_, _<_}
+use native.Mathlib.Nat.{sub-self, zero-mul, one-mul}
+use native.Mathlib.Numerals.{add-one}
+use native.Mathlib.Omega.{arith}
+use lib.ListN.{length, getD, set, length-set}
+use lib.Seq.{getD-set-same, getD-set-other}
+use lib.Bits.{bitXor, xor-zero-r}
+use lib.Pow.{split, high, low}
+use borrow.Author.Tests.{eqb-true, eqb-false}
+use Rattle.bondset.specs.Sets.{bit, has}
+use Rattle.bondset.specs.Reduction.{rowAt, putRow, reducedBy, usedBy, reduced, used, Reduces}
+use Rattle.bondset.proofs.Laws.{bit-lt}
+
+module _ (rows pivots : List ℕ) (from s : ℕ) where
+  pub reduced-none : reduced rows pivots from from s ≡ s
+  unfolding reduced reducedBy
+  reduced-none = rw (sub-self from)
+
+  pub reduced-more : (i : ℕ) → from ≤ i
+      → reduced rows pivots from (suc i) s
+      ≡ bitXor (reduced rows pivots from i s) (bit (reduced rows pivots from i s) (getD pivots i 0) * rowAt rows i)
+  unfolding reduced reducedBy
+  reduced-more i l =
+      let n : suc i - from ≡ suc (i - from) = omega arith in
+      let j : from + (i - from) ≡ i = omega arith in
+      rw n (ap (λ (k : ℕ). bitXor t (bit t (getD pivots k 0) * rowAt rows k)) j)
+    where
+      t : ℕ
+      t = reducedBy rows pivots from (i - from) s
+
+module _ (rows tags pivots : List ℕ) (from s u : ℕ) where
+  pub used-none : used rows tags pivots from from s u ≡ u
+  unfolding used usedBy
+  used-none = rw (sub-self from)
+
+  pub used-more : (i : ℕ) → from ≤ i
+      → used rows tags pivots from (suc i) s u
+      ≡ bitXor (used rows tags pivots from i s u) (bit (reduced rows pivots from i s) (getD pivots i 0) * rowAt tags i)
+  unfolding reduced used usedBy
+  used-more i l =
+      let n : suc i - from ≡ suc (i - from) = omega arith in
+      let j : from + (i - from) ≡ i = omega arith in
+      rw n (ap (λ (k : ℕ). bitXor v (bit t (getD pivots k 0) * rowAt tags k)) j)
+    where
+      t : ℕ
+      t = reducedBy rows pivots from (i - from) s
+
+      v : ℕ
+      v = usedBy rows tags pivots from (i - from) s u
+
+-- ---- the loop
+
+module _ (rows tags pivots : List ℕ) (from s u : ℕ) where
+  pub reduces-none : Reduces rows tags pivots from from s u s u
+  reduces-none = record { rest = sym (reduced-none rows pivots from s); used = sym (used-none rows tags pivots from s u) }
+
+  module _ (i : ℕ) (l : from ≤ i) (t w : ℕ) (so : Reduces rows tags pivots from i s u t w) (y z : ℕ) where
+    -- the turn of row i adds it and its tag, times the digit of its pivot
+    reduces-more : y ≡ bitXor t (bit t (getD pivots i 0) * rowAt rows i) → z ≡ bitXor w (bit t (getD pivots i 0) * rowAt tags i)
+        → Reduces rows tags pivots from (i + 1) s u y z
+    reduces-more p q =
+        rw add-one
+        (record {
+          rest = p ∙ ap (λ (x : ℕ). bitXor x (bit x (getD pivots i 0) * rowAt rows i)) (so .rest) ∙ sym (reduced-more rows pivots from s i l);
+          used = q ∙ ap₂ (λ (x a : ℕ). bitXor x (bit a (getD pivots i 0) * rowAt tags i)) (so .used) (so .rest) ∙ sym (used-more rows tags pivots from s u i l);
+        })
+
+    pub reduces-taken : has t (getD pivots i 0) ≡ true → y ≡ bitXor t (rowAt rows i) → z ≡ bitXor w (rowAt tags i) → Reduces rows tags pivots from (i + 1) s u y z
+    reduces-taken h p q = reduces-more (p ∙ ap (bitXor t) (one (rowAt rows i))) (q ∙ ap (bitXor w) (one (rowAt tags i)))
+      where
+        one : (r : ℕ) → r ≡ bit t (getD pivots i 0) * r
+        one r = sym (ap (λ (d : ℕ). d * r) (eqb-true (bit t (getD pivots i 0)) 1 h) ∙ one-mul r)
+
+    pub reduces-left : has t (getD pivots i 0) ≡ false → y ≡ t → z ≡ w → Reduces rows tags pivots from (i + 1) s u y z
+    reduces-left h p q = reduces-more (p ∙ none t (rowAt rows i)) (q ∙ none w (rowAt tags i))
+      where
+        none : (x r : ℕ) → x ≡ bitXor x (bit t (getD pivots i 0) * r)
+        none x r =
+            let d : bit t (getD pivots i 0) ≡ 0 = omega (arith, bit-lt t (getD pivots i 0), eqb-false (bit t (getD pivots i 0)) 1 h) in
+            sym (ap (bitXor x) (ap (λ (a : ℕ). a * r) d ∙ zero-mul r) ∙ xor-zero-r x)
+
+-- ---- a row that is stored, and the others
+
+module _ (rows : List ℕ) (i v : ℕ) where
+  pub length-putRow : length (putRow rows i v) ≡ length rows
+  unfolding putRow
+  length-putRow = simp length-set
+
+  -- a row is stored word by word
+  pub put-words : (hi lo : ℕ) → lo < 2 ^ 64 → hi * 2 ^ 64 + lo ≡ v → set (set rows (2 * i) lo) (2 * i + 1) hi ≡ putRow rows i v
+  unfolding putRow
+  put-words hi lo h e =
+      ap₂ (λ (x y : ℕ). set (set rows (2 * i) x) (2 * i + 1) y)
+      (sym (low hi 64 h) ∙ ap (λ (x : ℕ). x % 2 ^ 64) e) (sym (high hi 64 h) ∙ ap (λ (x : ℕ). x / 2 ^ 64) e)
+
+  pub row-same : 2 * (i + 1) ≤ length rows → rowAt (putRow rows i v) i ≡ v
+  unfolding rowAt putRow
+  row-same l =
+      ap₂ (λ (x y : ℕ). x * 2 ^ 64 + y)
+      (getD-set-same (set rows (2 * i) (v % 2 ^ 64)) (2 * i + 1) (v / 2 ^ 64) 0 (rw length-set (omega arith)))
+      (getD-set-other (set rows (2 * i) (v % 2 ^ 64)) (2 * i + 1) (2 * i) (v / 2 ^ 64) 0 (omega arith)
+      ∙ getD-set-same rows (2 * i) (v % 2 ^ 64) 0 (omega arith))
+      ∙ split v 64
+
+  pub row-other : (j : ℕ) → j < i → rowAt (putRow rows i v) j ≡ rowAt rows j
+  unfolding rowAt putRow
+  row-other j n =
+      ap₂ (λ (x y : ℕ). x * 2 ^ 64 + y) (past (2 * j + 1) (omega arith)) (past (2 * j) (omega arith))
+    where
+      past : (k : ℕ) → k < 2 * i → getD (set (set rows (2 * i) (v % 2 ^ 64)) (2 * i + 1) (v / 2 ^ 64)) k 0 ≡ getD rows k 0
+      past k h =
+          getD-set-other (set rows (2 * i) (v % 2 ^ 64)) (2 * i + 1) k (v / 2 ^ 64) 0 (omega arith)
+          ∙ getD-set-other rows (2 * i) k (v % 2 ^ 64) 0 (omega arith)

@@ -1,0 +1,71 @@
+//! Reducing a bond set by rows that stand in flat lent arrays.
+//!
+//! Row i is the set in words 2i and 2i + 1 of `rows`, and its tag the set in words 2i and 2i + 1 of `tags`; byte i of `pivots` is its pivot,
+//! a bond that it holds. The tag names chosen sets by their numbers, and the row is their sum.
+ghost use mathlib.Core.Path.{_≡_};
+ghost use Prim.Native.Nat.{_+_, _*_, _≤_};
+ghost use lib.ListN.{length};
+ghost use Rattle.bondset.specs.Sets.{value};
+ghost use Rattle.bondset.specs.Reduction.{rowAt, putRow, Room, Reduces, Pushes};
+use crate::BondSet;
+
+/// What remains of a set, and the chosen sets used on the way, named by their numbers.
+pub struct Reduced {
+    pub rest: BondSet,
+    pub used: BondSet,
+}
+
+/// Row `i`.
+pub fn row_at(rows: &[u64], i: usize) -> BondSet
+    requires { ⌜ 2 * (i + 1) ≤ length (now rows) ⌝ }
+    ensures { λ r. ⌜ value r ≡ rowAt (now (rows .entry)) i ⌝ }
+{
+    BondSet {
+        lo: rows[2 * i],
+        hi: rows[2 * i + 1],
+    }
+}
+
+/// Stores `v` as row `i`.
+pub fn put_row(rows: &mut [u64], i: usize, v: BondSet)
+    requires { ⌜ 2 * (i + 1) ≤ length (now rows) ⌝ }
+    ensures { λ _. ⌜ now (rows .exit) ≡ putRow (now (rows .entry)) i (value v) ⌝ }
+{
+    rows[2 * i] = v.lo;
+    rows[2 * i + 1] = v.hi;
+}
+
+/// Reduces `v` by the rows from, .., to - 1 in order: where the rest holds the pivot, the row is added to the rest, and its tag to what was used.
+pub fn reduce(
+    rows: &[u64],
+    tags: &[u64],
+    pivots: &[u8],
+    from: usize,
+    to: usize,
+    v: Reduced,
+) -> Reduced
+    requires { ⌜ from ≤ to ⌝ }
+    requires { ⌜ Room (now rows) (now tags) (now pivots) to ⌝ }
+    ensures { λ r. ⌜ Reduces (now (rows .entry)) (now (tags .entry)) (now (pivots .entry)) from to (value (v .rest)) (value (v .used)) (value (r .rest)) (value (r .used)) ⌝ }
+{
+    let mut rest = v.rest;
+    let mut used = v.used;
+    for i in from..to {
+        if crate::member(rest, pivots[i] as usize) {
+            rest = crate::sum(rest, row_at(rows, i));
+            used = crate::sum(used, row_at(tags, i));
+        }
+    }
+    Reduced { rest, used }
+}
+
+/// Stores `v.rest` as row `count`, with its lowest bond as the pivot; its tag names what was used and the new chosen set, `count`.
+pub fn push(rows: &mut [u64], tags: &mut [u64], pivots: &mut [u8], count: usize, v: Reduced)
+    requires { ⌜ Room (now rows) (now tags) (now pivots) (count + 1) ⌝ }
+    ensures { λ _. ⌜ Pushes (now (rows .entry)) (now (tags .entry)) (now (pivots .entry)) count (value (v .rest)) (value (v .used))
+        (now (rows .exit)) (now (tags .exit)) (now (pivots .exit)) ⌝ }
+{
+    put_row(rows, count, v.rest);
+    put_row(tags, count, crate::sum(v.used, crate::single(count)));
+    pivots[count] = crate::lowest(v.rest) as u8;
+}
