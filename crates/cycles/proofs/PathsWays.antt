@@ -3,9 +3,8 @@ use mathlib.Core.Path.{_≡_, refl, sym, ap, _∙_}
 use mathlib.Core.List.{List, [], _∷_}
 use Prim.Native.Nat.{ℕ, suc, _+_, _%_, _^_, _<_, _≤_}
 use native.Mathlib.Omega.{arith}
-use lib.Bits.{bitXor, xor-comm, xor-self, xor-zero-l, xor-zero-r, xor-lt, xor-mod}
+use lib.Bits.{bitXor, xor-comm, xor-self, xor-zero-l, xor-zero-r, xor-lt}
 use lib.ListN.{length}
-use Rattle.bondset.specs.Sets.{lengthTo}
 use Rattle.bondset.proofs.Laws.{xor-assoc, length-sum}
 use Rattle.cycles.specs.Compound.{Compound, m, Joins, Sound}
 use Rattle.cycles.specs.Ring.{len, degree, Closed, Edges}
