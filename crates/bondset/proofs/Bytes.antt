@@ -1,8 +1,8 @@
 -- Bond sets as bytes: each bond is a bit of one byte, and sets and bytes give each other back.
 use mathlib.Core.Path.{_≡_, refl, sym, ap, ap₂, _∙_, subst}
 use mathlib.Core.Logic.{⊎-elim}
-use mathlib.Core.List.{List, [], _∷_, _++_}
-use Prim.Native.Nat.{ℕ, zero, suc, _+_, _-_, _*_, _/_, _%_, _^_, _≤_, _<_, min}
+use mathlib.Core.List.{List, [], _∷_}
+use Prim.Native.Nat.{ℕ, zero, suc, _+_, _-_, _*_, _/_, _%_, _^_, _≤_, _<_}
 use native.Mathlib.Nat.{mod-eq-of-lt, mod-lt, add-assoc, add-comm, add-mul, mul-assoc, zero-add, zero-mul, suc-add, zero-lt-suc}
 use native.Mathlib.Numerals.{add-one}
 use native.Mathlib.Omega.{arith}
@@ -26,7 +26,7 @@ bit-byteOf s k =
 pub length-bytesOf : (n s : ℕ) → length (bytesOf n s) ≡ n
 unfolding bytesOf
 length-bytesOf zero s = refl
-length-bytesOf (suc n) s = rw (length-append, length-bytesOf n s) (omega arith)
+length-bytesOf (suc n) s = simp length-append (omega (arith, length-bytesOf n s))
 
 pub getD-bytesOf : (n s j : ℕ) → j < n → getD (bytesOf n s) j 0 ≡ byteOf s j
 unfolding bytesOf
@@ -53,6 +53,7 @@ byte-over n r b h l =
     let e : 256 * 2 ^ (8 * n) ≡ 2 ^ (8 * suc n) = sym (pow-add 2 8 (8 * n)) ∙ ap (λ (x : ℕ). 2 ^ x) (omega arith) in
     subst (λ (x : ℕ). b * 2 ^ (8 * n) + r < x) e (digits-lt l h)
 
+-- n bytes stand for a set of 8n bonds
 pub ofFirst-lt : (n : ℕ) (bs : List ℕ) → ((j : ℕ) → j < n → getD bs j 0 < 256) → ofFirst n bs < 2 ^ (8 * n)
 unfolding ofFirst
 ofFirst-lt zero bs h = pow-pos 0

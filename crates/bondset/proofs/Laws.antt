@@ -121,12 +121,16 @@ differ-min x y hx hy =
 -- the members of both are counted twice
 pub ones-xor : (a b : ℕ) → ones (bitXor a b) + 2 * ones (bitAnd a b) ≡ ones a + ones b
 ones-xor a =
-    bin-ind (λ (n : ℕ). (b : ℕ) → ones (bitXor n b) + 2 * ones (bitAnd n b) ≡ ones n + ones b) (λ b. omega (arith, ap (λ (x : ℕ). 2 * x) (ones-bit 0 (zero-lt-suc 1)), ones-bit 0 (zero-lt-suc 1)))
+    bin-ind (λ (n : ℕ). (b : ℕ) → ones (bitXor n b) + 2 * ones (bitAnd n b) ≡ ones n + ones b)
+    (λ b. omega (arith, ap (λ (x : ℕ). 2 * x) (ones-bit 0 two-pos), ones-bit 0 two-pos))
     (λ n ih b.
     let hx = mod-lt n two-pos in let hy = mod-lt b two-pos in
     let e1 = ap ones (xor-step n b) ∙ ones-digit (bitXor (n / 2) (b / 2)) (differ (n % 2) (b % 2)) (differ-lt _ _ hx hy) in
     let e2 = ap ones (and-step n b) ∙ ones-digit (bitAnd (n / 2) (b / 2)) (min (n % 2) (b % 2)) (min-lt _ _ hx) in
     omega (arith, e1, e2, ones-step n, ones-step b, ih (b / 2), differ-min (n % 2) (b % 2) hx hy)) a
+
+pub ones-xor-le : (a b : ℕ) → ones (bitXor a b) ≤ ones a + ones b
+ones-xor-le a b = omega (arith, ones-xor a b)
 
 -- the same, of the members below n
 pub length-sum : (n a b : ℕ) → lengthTo n (bitXor a b) + 2 * lengthTo n (bitAnd a b) ≡ lengthTo n a + lengthTo n b

@@ -1,6 +1,6 @@
 -- The members of a bond set as a list: which they are, how many, and a loop that takes the lowest away until none is left.
 use mathlib.Core.Path.{_≡_, refl, sym, ap, ap₂, _∙_}
-use mathlib.Core.Logic.{_⊎_, inl, inr, ⊎-elim}
+use mathlib.Core.Logic.{_⊎_, inl, inr, ⊎-elim, _↔_}
 use mathlib.Core.List.{List, [], _∷_, _++_, append-nil}
 use Prim.Native.Nat.{ℕ, zero, suc, _+_, _-_, _*_, _/_, _%_, _^_, _≤_, _<_, min}
 use native.Mathlib.Nat.{add-comm, pow-suc, mul-div-cancel, mul-mod-left, zero-min, mod-lt, zero-lt-suc}
@@ -10,7 +10,8 @@ use lib.Bits.{bitXor, bitAnd, differ, and-step, xor-step, and-self, and-le-r, xo
 use lib.Count.{trailingZeros, under}
 use lib.ListN.{length, length-append}
 use lib.Pow.{shr-lt}
-use Rattle.bondset.specs.Sets.{bit, lengthTo, ifSet, members, _∈_, first, later, Ascending, none, next, Lowest}
+use Rattle.spans.specs.Elements.{_∈_, first, later}
+use Rattle.bondset.specs.Sets.{bit, lengthTo, ifSet, members, Ascending, none, next, Lowest}
 use Rattle.bondset.proofs.Laws.{cases2, lt-or-ge, bit-lt, bit-xor, bit-pow-same, bit-pow-other, zero-bit, trailing, lowest}
 
 -- ---- how many there are
@@ -69,11 +70,15 @@ bit-of-mem (suc n) s k m =
     (λ (l : k ∈ ifSet (bit s n) n). rw (∈-ifSet-eq (bit s n) l) (omega (arith, ∈-ifSet-pos (bit s n) n l, bit-lt s n)))
     (∈-cases (members n s) (ifSet (bit s n) n) m)
 
+-- the members are those below n whose bit is 1
+pub mem-members : (n s k : ℕ) → (k ∈ members n s) ↔ ((k < n) × (bit s k ≡ 1))
+mem-members n s k = (λ m. (lt-of-mem n s k m, bit-of-mem n s k m), λ p. mem-of-bit n s k (p .0) (p .1))
+
 ascending-append : {xs : List ℕ} (k : ℕ) → Ascending xs → ((x : ℕ) → x ∈ xs → x < k) → Ascending (xs ++ (k ∷ []))
 ascending-append k none h = next {x = k} {xs = []} (λ y. elim [ ]) none
 ascending-append k (next {x} {xs} lt a) h =
     next (λ y m. ⊎-elim (λ (l : y ∈ xs). lt y l) (λ (l : y ∈ ifSet 1 k). omega (arith, ∈-ifSet-eq 1 l, h x first)) (∈-cases xs (k ∷ []) m))
-      (ascending-append k a (λ y m. h y (later m)))
+    (ascending-append k a (λ y m. h y (later m)))
 
 pub members-ascending : (n s : ℕ) → Ascending (members n s)
 unfolding members
@@ -104,6 +109,7 @@ members-lowest (suc n) s r t h low gone same =
   where
     more : t < n → members n s ≡ t ∷ members n r → members n s ++ ifSet (bit s n) n ≡ t ∷ (members n r ++ ifSet (bit r n) n)
     more l e = rw (e, same n (omega arith))
+
     last : t ≡ n → members n s ++ ifSet (bit s n) n ≡ t ∷ (members n r ++ ifSet (bit r n) n)
     last e =
         let one : bit s n ≡ 1 = rw e at (low .here) in
@@ -119,7 +125,8 @@ clear-lowest (suc n) s p h =
     ∙ sym (xor-step s (2 ^ under (s % 2) (trailingZeros n (s / 2))))
   where
     go : (d : ℕ) → s % 2 ≡ d → (0 < s / 2 → bitAnd (s / 2) (s / 2 - 1) ≡ bitXor (s / 2) (2 ^ trailingZeros n (s / 2)))
-      → bitAnd (s / 2) ((s - 1) / 2) * 2 + min d ((s - 1) % 2) ≡ bitXor (s / 2) (2 ^ under d (trailingZeros n (s / 2)) / 2) * 2 + differ d (2 ^ under d (trailingZeros n (s / 2)) % 2)
+        → bitAnd (s / 2) ((s - 1) / 2) * 2 + min d ((s - 1) % 2)
+        ≡ bitXor (s / 2) (2 ^ under d (trailingZeros n (s / 2)) / 2) * 2 + differ d (2 ^ under d (trailingZeros n (s / 2)) % 2)
     go zero e ih =
         let q : (s - 1) / 2 ≡ s / 2 - 1 = omega arith in
         rw (q, pow-suc, mul-div-cancel (2 ^ trailingZeros n (s / 2)) (zero-lt-suc 1), mul-mod-left, zero-min, ih (omega arith))
@@ -139,9 +146,9 @@ members-step n s p h =
     let t = trailing n s p h in
     let k = trailingZeros n s in
     rw (clear-lowest n s p h)
-      (members-lowest n s (bitXor s (2 ^ k)) k (t .small) (lowest n s p h)
-        (bit-xor s (2 ^ k) k ∙ ap₂ differ (t .here) (bit-pow-same k))
-        (λ j ne. bit-xor s (2 ^ k) j ∙ ap (λ (x : ℕ). differ (bit s j) x) (bit-pow-other k j (λ e. ne (sym e))) ∙ differ-zero (bit s j)))
+    (members-lowest n s (bitXor s (2 ^ k)) k (t .small) (lowest n s p h)
+    (bit-xor s (2 ^ k) k ∙ ap₂ differ (t .here) (bit-pow-same k))
+    (λ j ne. bit-xor s (2 ^ k) j ∙ ap (λ (x : ℕ). differ (bit s j) x) (bit-pow-other k j (λ e. ne (sym e))) ∙ differ-zero (bit s j)))
 
 -- the loop ends
 pub and-pred-lt : (s : ℕ) → 0 < s → bitAnd s (s - 1) < s

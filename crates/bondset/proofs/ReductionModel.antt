@@ -58,6 +58,15 @@ module _ (rows tags pivots : List ℕ) (from s u : ℕ) where
   pub reduces-none : Reduces rows tags pivots from from s u s u
   reduces-none = record { rest = sym (reduced-none rows pivots from s); used = sym (used-none rows tags pivots from s u) }
 
+  -- where the loop ends: at row to, or at once
+  pub reduces-end : (i to t w : ℕ) → i - from ≡ to - from → Reduces rows tags pivots from i s u t w → Reduces rows tags pivots from to s u t w
+  unfolding reduced used
+  reduces-end i to t w e so =
+      record {
+        rest = so .rest ∙ ap (λ (n : ℕ). reducedBy rows pivots from n s) e;
+        used = so .used ∙ ap (λ (n : ℕ). usedBy rows tags pivots from n s u) e;
+      }
+
   module _ (i : ℕ) (l : from ≤ i) (t w : ℕ) (so : Reduces rows tags pivots from i s u t w) (y z : ℕ) where
     -- the turn of row i adds it and its tag, times the digit of its pivot
     reduces-more : y ≡ bitXor t (bit t (getD pivots i 0) * rowAt rows i) → z ≡ bitXor w (bit t (getD pivots i 0) * rowAt tags i)

@@ -3,7 +3,7 @@ use mathlib.Core.Path.{_≡_, refl, sym, ap, ap₂, _∙_, subst}
 use mathlib.Core.Logic.{_⊎_, inl, inr}
 use mathlib.Core.List.{List, [], _∷_, _++_}
 use Prim.Native.Nat.{ℕ, zero, suc, _+_, _-_, _*_, _/_, _%_, _^_, _≤_, _<_, zero-le}
-use native.Mathlib.Nat.{add-zero, add-suc, zero-mul, one-mul, mod-lt, le-add-right, le-refl, le-of-lt, lt-trans, lt-of-lt-of-le}
+use native.Mathlib.Nat.{add-zero, add-suc, zero-mul, mul-zero, one-mul, mul-one, mod-lt, le-add-right, le-refl, le-of-lt, lt-trans, lt-of-lt-of-le}
 use native.Mathlib.Numerals.{add-one}
 use native.Mathlib.Omega.{arith}
 use lib.ListN.{length, getD, set, take, drop, length-append, length-drop, length-set, List·getD-append}
@@ -18,9 +18,10 @@ use Rattle.spans.proofs.Span.{Span, at, Expansion}
 use Rattle.spans.proofs.Steinitz.{span-inside}
 use Rattle.bondset.specs.Sets.{bit}
 use Rattle.bondset.specs.Reduction.{rowAt, putRow, reduced, used, pushedTag, pivotOf, Room, combine, namedBy, Reduction}
-use Rattle.bondset.proofs.Laws.{bit-lt, bit-xor, bit-pow-same, bit-beyond, single-below, zero-bit, lt-or-ge, pos-of-ne, trailing}
+use Rattle.bondset.proofs.Laws.{cases2, bit-lt, bit-xor, bit-pow-same, bit-beyond, single-below, zero-bit, lt-or-ge, pos-of-ne, trailing}
 use Rattle.bondset.proofs.Group.{bondSets}
-use Rattle.bondset.proofs.ReductionTags.{xor-swap, xor-cancel, scale-xor, combine-zero, combine-xor, combine-scale, combine-single, combine-take, combine-lt, combine-last, combine-split, combine-shifted, combine-span-take, digit-lt, namedBy-all, namedBy-part, namedBy-sum}
+use Rattle.bondset.proofs.ReductionTags.{xor-swap, xor-cancel, scale-xor, combine-zero, combine-xor, combine-scale, combine-single, combine-take, combine-lt}
+use Rattle.bondset.proofs.ReductionTags.{combine-last, combine-split, combine-shifted, combine-span-take, digit-lt, namedBy-all, namedBy-part, namedBy-sum}
 use Rattle.bondset.proofs.ReductionModel.{reduced-none, reduced-more, used-none, used-more, length-putRow, row-same, row-other}
 
 -- ---- one row
@@ -41,20 +42,25 @@ add-tagged xs t u d r g h e =
     ∙ ap (bitXor (bitXor t (combine xs u))) (xor-self (d * r))
     ∙ xor-zero-r (bitXor t (combine xs u))
 
+bit-scale : (d r q : ℕ) → d < 2 → bit (d * r) q ≡ d * bit r q
+bit-scale d r q h =
+    cases2 (λ (d : ℕ). bit (d * r) q ≡ d * bit r q) (ap (λ (x : ℕ). bit x q) (zero-mul r) ∙ zero-bit q ∙ sym (zero-mul (bit r q)))
+    (ap (λ (x : ℕ). bit x q) (one-mul r) ∙ sym (one-mul (bit r q))) d h
+
+differ-self : (d : ℕ) → differ d d ≡ 0
+differ-self zero = refl
+differ-self (suc d) = differ-self d
+
 -- after one more row: what held of the pivots before still holds, and the row's own pivot is gone
 add-clears : (t p r q : ℕ) → bit r p ≡ 1 → (q ≡ p) ⊎ ((bit t q ≡ 0) × (bit r q ≡ 0)) → bit (bitXor t (bit t p * r)) q ≡ 0
-add-clears t p r q own (inl e) = rw e (cleared (bit t p) refl (bit-lt t p))
-  where
-    cleared : (d : ℕ) → bit t p ≡ d → d < 2 → bit (bitXor t (d * r)) p ≡ 0
-    cleared zero z l = bit-xor t (0 * r) p ∙ ap₂ differ z (ap (λ (x : ℕ). bit x p) (zero-mul r) ∙ zero-bit p)
-    cleared (suc zero) z l = bit-xor t (1 * r) p ∙ ap₂ differ z (ap (λ (x : ℕ). bit x p) (one-mul r) ∙ own)
-    cleared (suc (suc d)) z l = absurd (omega arith)
-add-clears t p r q own (inr e) = kept (bit t p) (bit-lt t p)
-  where
-    kept : (d : ℕ) → d < 2 → bit (bitXor t (d * r)) q ≡ 0
-    kept zero l = bit-xor t (0 * r) q ∙ ap₂ differ (e .0) (ap (λ (x : ℕ). bit x q) (zero-mul r) ∙ zero-bit q)
-    kept (suc zero) l = bit-xor t (1 * r) q ∙ ap₂ differ (e .0) (ap (λ (x : ℕ). bit x q) (one-mul r) ∙ e .1)
-    kept (suc (suc d)) l = absurd (omega arith)
+add-clears t p r q own (inl e) =
+    rw e
+    (bit-xor t (bit t p * r) p
+    ∙ ap (differ (bit t p)) (bit-scale (bit t p) r p (bit-lt t p) ∙ ap (λ (x : ℕ). bit t p * x) own ∙ mul-one (bit t p))
+    ∙ differ-self (bit t p))
+add-clears t p r q own (inr e) =
+    bit-xor t (bit t p * r) q
+    ∙ ap₂ differ (e .0) (bit-scale (bit t p) r q (bit-lt t p) ∙ ap (λ (x : ℕ). bit t p * x) (e .1) ∙ mul-zero (bit t p))
 
 -- ---- the first n rows
 
@@ -422,12 +428,10 @@ reduction-push {rows} {tags} {pivots} {chosen} state room few v some fits =
 -- ---- an expansion, cut at the number of the shorter chosen sets
 
 -- a set that a tag names, without the chosen sets from the short-th on that the tag names, is a sum of the first `short` chosen sets
-pub remains-short : (short : ℕ) (chosen : List ℕ) (t v : ℕ) → v ≡ combine chosen t
-    → Span bondSets (take short chosen) (bitXor v (Sum bondSets (namedBy (drop short chosen) (t / 2 ^ short))))
-remains-short short chosen t v e =
-    at bondSets
-    (sym (ap₂ bitXor (e ∙ combine-split short chosen t ∙ xor-comm high low) (namedBy-sum (drop short chosen) (t / 2 ^ short) ∙ sym (combine-shifted short (t / 2 ^ short) chosen))
-    ∙ xor-cancel low high))
+pub span-short : (short : ℕ) (chosen : List ℕ) (t v : ℕ) → v ≡ combine chosen t
+    → Span bondSets (take short chosen) (bitXor v (combine chosen (t / 2 ^ short * 2 ^ short)))
+span-short short chosen t v e =
+    at bondSets (sym (ap (λ (x : ℕ). bitXor x high) (e ∙ combine-split short chosen t ∙ xor-comm high low) ∙ xor-cancel low high))
     (combine-span-take short chosen (t % 2 ^ short) (mod-lt t (pow-pos short)))
   where
     high : ℕ
@@ -436,14 +440,19 @@ remains-short short chosen t v e =
     low : ℕ
     low = combine chosen (t % 2 ^ short)
 
--- the same as an expansion over the chosen sets from the short-th on, modulo the shorter ones
+-- the chosen sets from the short-th on that a tag names: their list and their sum
+pub sum-short : (short : ℕ) (chosen : List ℕ) (t : ℕ)
+    → Sum bondSets (namedBy (drop short chosen) (t / 2 ^ short)) ≡ combine chosen (t / 2 ^ short * 2 ^ short)
+sum-short short chosen t = namedBy-sum (drop short chosen) (t / 2 ^ short) ∙ sym (combine-shifted short (t / 2 ^ short) chosen)
+
+-- the same as an expansion over the chosen sets from the short-th on, modulo those before
 pub expansion-short : (short : ℕ) (chosen : List ℕ) (t v : ℕ) → v ≡ combine chosen t → Expansion bondSets (drop short chosen) (take short chosen) v
 unfolding bondSets
 expansion-short short chosen t v e =
     record {
       used = namedBy (drop short chosen) (t / 2 ^ short);
       part = namedBy-part (drop short chosen) (t / 2 ^ short);
-      remains = remains-short short chosen t v e;
+      remains = at bondSets (ap (bitXor v) (sym (sum-short short chosen t))) (span-short short chosen t v e);
     }
 
 -- what holds of the chosen sets from the short-th on that a tag names holds of the list that it names
@@ -452,7 +461,8 @@ pub named-short-all : {P : ℕ → Type 0} (short : ℕ) (chosen : List ℕ) (t 
 named-short-all {P} short chosen t h =
     namedBy-all (drop short chosen) (t / 2 ^ short)
     (λ i l b. subst P (sym (getD-drop short chosen i 0))
-    (h (short + i) (le-add-right short i) (in-range i (subst (λ (n : ℕ). i < n) (length-drop short chosen) l)) (sym (ap (λ (x : ℕ). x % 2) (shr-shr t short i)) ∙ b)))
+    (h (short + i) (le-add-right short i) (in-range i (subst (λ (n : ℕ). i < n) (length-drop short chosen) l))
+    (sym (ap (λ (x : ℕ). x % 2) (shr-shr t short i)) ∙ b)))
   where
     in-range : (i : ℕ) → i < length chosen - short → short + i < length chosen
     in-range i l = omega arith

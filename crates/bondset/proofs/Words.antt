@@ -22,7 +22,7 @@ word-zero w (suc hi) lo e =
 pub since-lo : (w hi lo k : ℕ) → k ≤ w → (hi * 2 ^ w + lo) / 2 ^ k * 2 ^ k ≡ hi * 2 ^ w + lo / 2 ^ k * 2 ^ k
 since-lo w hi lo k h =
     let e : hi * 2 ^ w ≡ hi * 2 ^ (w - k) * 2 ^ k =
-      ap (λ (x : ℕ). hi * 2 ^ x) (omega arith) ∙ ap (λ (x : ℕ). hi * x) (pow-add 2 (w - k) k) ∙ sym (mul-assoc hi (2 ^ (w - k)) (2 ^ k)) in
+    ap (λ (x : ℕ). hi * 2 ^ x) (omega arith) ∙ ap (λ (x : ℕ). hi * x) (pow-add 2 (w - k) k) ∙ sym (mul-assoc hi (2 ^ (w - k)) (2 ^ k)) in
     rw (e, mul-add-div-right (pow-pos k), add-mul)
 
 pub since-hi : (w hi lo k : ℕ) → lo < 2 ^ w → w ≤ k → (hi * 2 ^ w + lo) / 2 ^ k * 2 ^ k ≡ hi / 2 ^ (k - w) * 2 ^ (k - w) * 2 ^ w
@@ -43,7 +43,7 @@ trailing-lo (suc w) v hi lo p h =
     rw (suc-add, block-half, block-odd) (go (lo % 2) refl (λ q. trailing-lo w v hi (lo / 2) q (shr-lt w 1 (rw add-one h))))
   where
     go : (d : ℕ) → lo % 2 ≡ d → (0 < lo / 2 → trailingZeros (w + v) (hi * 2 ^ w + lo / 2) ≡ trailingZeros w (lo / 2))
-      → under d (trailingZeros (w + v) (hi * 2 ^ w + lo / 2)) ≡ under d (trailingZeros w (lo / 2))
+        → under d (trailingZeros (w + v) (hi * 2 ^ w + lo / 2)) ≡ under d (trailingZeros w (lo / 2))
     go zero e ih = ap suc (ih (omega arith))
     go (suc d) e ih = refl
 

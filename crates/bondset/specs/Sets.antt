@@ -6,6 +6,7 @@ use mathlib.Core.Bool.{Bool, cond}
 use mathlib.Core.List.{List, [], _∷_, _++_}
 use Prim.Native.Nat.{ℕ, zero, suc, _+_, _*_, _/_, _%_, _^_, _<_}
 use lib.Dec.{eqb, ltb}
+use Rattle.spans.specs.Elements.{_∈_}
 use Rattle.bondset.specs.declared.BondSet.{BondSet}
 
 -- one bit for each bond: 1 if bond k is in s, and 0 if not
@@ -38,12 +39,6 @@ ifSet (suc b) k = k ∷ []
 unfoldable pub members : ℕ → ℕ → List ℕ
 members zero s = []
 members (suc n) s = members n s ++ ifSet (bit s n) n
-
-infix 50 _∈_
--- x is in the list
-pub data _∈_ {A : Type 0} (x : A) : List A → Type 0 where
-  first : {xs : List A} → x ∈ (x ∷ xs)
-  later : {y : A} {xs : List A} → x ∈ xs → x ∈ (y ∷ xs)
 
 -- each number of the list is below all that follow it
 pub data Ascending : List ℕ → Type 0 where

@@ -2,16 +2,16 @@
 //!
 //! A set's value is the number in which bond k has weight 2^k, and each function says exactly what becomes of that number:
 //! sums, intersections, single bonds, membership, length, the lowest bond, the bonds from one on, and the set as 12 bytes.
-//! Every function here answers for every input, and nothing is assumed of what the bonds join.
+//! Each of these answers for every input, and nothing is assumed of what the bonds join.
 ghost use mathlib.Core.Path.{_≡_};
-ghost use Prim.Native.Nat.{_+_, _-_, _*_, _/_, _%_, _^_, _<_, _≤_, min};
+ghost use Prim.Native.Nat.{_+_, _-_, _*_, _/_, _^_, _<_, _≤_, min};
 ghost use lib.Bits.{bitXor, bitAnd};
 ghost use lib.Count.{trailingZeros};
 ghost use lib.Dec.{eqb};
 ghost use lib.ListN.{length, getD, drop};
 ghost use lib.Seq.{paste};
 ghost use Rattle.bondset.specs.Bytes.{byteOf, bytesOf, ofFirst, ofBytes};
-ghost use Rattle.bondset.specs.Sets.{bit, has, single, lengthTo, value, Lowest};
+ghost use Rattle.bondset.specs.Sets.{has, single, lengthTo, value};
 
 pub mod reduction;
 

@@ -9,9 +9,11 @@ ghost use Rattle.bondset.specs.Sets.{value};
 ghost use Rattle.bondset.specs.Reduction.{rowAt, putRow, Room, Reduces, Pushes};
 use crate::BondSet;
 
-/// What remains of a set, and the chosen sets used on the way, named by their numbers.
+/// A set on its way through the rows.
 pub struct Reduced {
+    /// What remains of the set.
     pub rest: BondSet,
+    /// The numbers of the chosen sets used on the way.
     pub used: BondSet,
 }
 
@@ -44,9 +46,9 @@ pub fn reduce(
     to: usize,
     v: Reduced,
 ) -> Reduced
-    requires { ⌜ from ≤ to ⌝ }
     requires { ⌜ Room (now rows) (now tags) (now pivots) to ⌝ }
-    ensures { λ r. ⌜ Reduces (now (rows .entry)) (now (tags .entry)) (now (pivots .entry)) from to (value (v .rest)) (value (v .used)) (value (r .rest)) (value (r .used)) ⌝ }
+    ensures { λ r. ⌜ Reduces (now (rows .entry)) (now (tags .entry)) (now (pivots .entry)) from to (value (v .rest)) (value (v .used))
+        (value (r .rest)) (value (r .used)) ⌝ }
 {
     let mut rest = v.rest;
     let mut used = v.used;

@@ -1,43 +1,38 @@
 -- From a list of candidates, longest first, choose from the end each that those chosen do not span: a graded basis.
-use mathlib.Core.Path.{_≡_, refl, sym, _∙_, ap, subst}
-use mathlib.Core.List.{List, [], _∷_, _++_}
-use Prim.Native.Nat.{ℕ, zero, suc, _+_, _<_, _≤_}
+use mathlib.Core.List.{List, [], _∷_}
+use Prim.Native.Nat.{ℕ, suc, _<_, _≤_}
 use native.Mathlib.Omega.{arith}
 use Rattle.spans.specs.Group.{Space}
 use Rattle.spans.specs.Basis.{Part, All, Basis, Spans}
-use Rattle.spans.specs.Graded.{total, below, Graded, Minimum}
+use Rattle.spans.specs.Graded.{below, Graded, Minimum}
 use Rattle.spans.proofs.Lists.{part-all, all-map, all-and, part-refl, part-trans}
 use Rattle.spans.proofs.Span.{Span, head, span-dec, through, mono}
 use Rattle.spans.proofs.Indep.{Indep}
 use Rattle.spans.proofs.Steinitz.{spanned, spans}
-use Rattle.spans.proofs.Graded.{Split, split, split-part, split-low, graded-minimum}
+use Rattle.spans.proofs.Graded.{split, split-part, split-low, graded-minimum}
+use Rattle.spans.proofs.Sift.{sift-most}
 use Rattle.spans.proofs.Minimum.{basis}
 
 module _ {X : Type 0} (ℓ : X → ℕ) where
+  -- No element is longer than one before it.
   pub data Falling : List X → Type 0 where
     nil : Falling []
     cons : {x : X} {xs : List X} → All (λ z. ℓ z ≤ ℓ x) xs → Falling xs → Falling (x ∷ xs)
 
-  split-most : {k : ℕ} {xs ys zs : List X} → Split ℓ k xs ys → Part xs zs → All (λ x. ℓ x < k) zs → Part ys zs
-  split-most Split.nil Part.nil a = Part.nil
-  split-most (Split.low p s) (Part.keep q) (All.cons a r) = Part.keep (split-most s q r)
-  split-most (Split.low p s) (Part.skip q) r = Part.skip (split-most s q r)
-  split-most (Split.high p s) (Part.keep q) (All.cons a r) = absurd (p a)
-  split-most (Split.high p s) (Part.skip q) r = split-most s q r
-
 module _ {X : Type 0} (G : Space X) where
+  -- The second list is what is chosen from the first.
   pub data Greedy : List X → List X → Type 0 where
     nil : Greedy [] []
     take : {y : X} {ys zs : List X} → ¬ Span G zs y → Greedy ys zs → Greedy (y ∷ ys) (y ∷ zs)
     drop : {y : X} {ys zs : List X} → Span G zs y → Greedy ys zs → Greedy (y ∷ ys) zs
 
-  unfoldable pub step : {ys zs : List X} (y : X) → Greedy ys zs → Dec (Span G zs y) → (ws : List X) × Greedy (y ∷ ys) ws
-  step {zs} y g (yes s) = (zs, Greedy.drop s g)
-  step {zs} y g (no n) = (y ∷ zs, Greedy.take n g)
+  unfoldable pub greedy-step : {ys zs : List X} (y : X) → Greedy ys zs → Dec (Span G zs y) → (ws : List X) × Greedy (y ∷ ys) ws
+  greedy-step {zs} y g (yes s) = (zs, Greedy.drop s g)
+  greedy-step {zs} y g (no n) = (y ∷ zs, Greedy.take n g)
 
   unfoldable pub greedy : (ys : List X) → (zs : List X) × Greedy ys zs
   greedy [] = ([], Greedy.nil)
-  greedy (y ∷ ys) = let (zs, g) = greedy ys in step y g (span-dec G zs y)
+  greedy (y ∷ ys) = let (zs, g) = greedy ys in greedy-step y g (span-dec G zs y)
 
   greedy-indep : {ys zs : List X} → Greedy ys zs → Indep G zs
   greedy-indep Greedy.nil = Indep.none
@@ -51,7 +46,7 @@ module _ {X : Type 0} (G : Space X) where
 
   module _ (ℓ : X → ℕ) where
     low-span : {k : ℕ} {zs us : List X} {v : X} → Part zs us → All (λ x. ℓ x < k) us → Span G us v → Span G (below ℓ k zs) v
-    low-span {k} {zs} p a s = mono G (split-most ℓ (split ℓ k zs) p a) s
+    low-span {k} {zs} p a s = mono G (sift-most _ (split ℓ k zs) p a) s
 
     longer : {k m : ℕ} {zs ws : List X} {v : X} → Part ws zs → k ≤ m → Span G (below ℓ k zs) v → Span G (below ℓ m ws) v
     longer {k} {m} {zs} q h s =
@@ -82,7 +77,7 @@ module _ {X : Type 0} (G : Space X) where
 
       pub greedy-basis : Basis G W zs
       greedy-basis =
-          basis G ℓ W (part-all (greedy-part g) inside) (greedy-indep g)
+          basis G W (part-all (greedy-part g) inside) (greedy-indep g)
           (λ s w. mono G (split-part ℓ (split ℓ (suc (ℓ s)) zs)) (reach (suc (ℓ s)) s w (omega arith)))
 
       pub greedy-minimum : Minimum G ℓ W zs

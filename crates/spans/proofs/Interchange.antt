@@ -1,45 +1,20 @@
--- To be interchangeable is an equivalence relation.
-use mathlib.Core.Path.{_≡_, refl, sym, _∙_, ap, subst}
+-- To be interchangeable modulo the span of S is an equivalence relation.
+use mathlib.Core.Path.{_≡_, ap}
 use mathlib.Core.List.{List, [], _∷_, _++_, append-assoc}
 use Rattle.spans.specs.Group.{Space}
-use Rattle.spans.specs.Basis.{Part, All, Sum, Independent}
+use Rattle.spans.specs.Basis.{Part, All, Sum}
 use Rattle.spans.specs.Interchange.{Interchange}
-use Rattle.spans.proofs.Xor.{xor, both, past, right, cancel}
-use Rattle.spans.proofs.Lists.{part-all, part-append, part-refl, all-append, Perm, perm-sym, perm-blocks, Pick, pick-perm, pick-part}
-use Rattle.spans.proofs.Span.{Span, at, zero, head, add, span-dec, through, own, own-part, mono, left-of, right-of, halves, span-perm, to-part, from-part}
-use Rattle.spans.proofs.Indep.{Indep, first, rest, indep-part, indep-perm, Extended, extend, extended-spans, independent, by-recursion}
-
-module _ {X : Type 0} (G : Space X) where
-  open Space G using (o, _⊕_, comm, assoc, self, left, dec)
-
-  pub sum-in : (xs : List X) → Span G xs (Sum G xs)
-  sum-in xs = from-part G (part-refl xs)
-
-  pub record Uses (xs zs : List X) (z : X) : Type 0 where
-    pub one : X
-    pub others : List X
-    pub pick : Pick xs one others
-    pub remains : Span G (others ++ zs) (z ⊕ one)
-
-  -- An element that zs alone does not span uses one of xs.
-  pub uses : (xs zs : List X) (z : X) → Span G (xs ++ zs) z → ¬ Span G zs z → Uses xs zs z
-  uses [] zs z s n = absurd (n s)
-  uses (x ∷ xs) zs z (Span.skip s) n =
-      let r = uses xs zs z s n in
-      record { one = r .one; others = x ∷ r .others; pick = Pick.there (r .pick); remains = Span.skip (r .remains) }
-  uses (x ∷ xs) zs z (Span.take s) n = record { one = x; others = xs; pick = Pick.here; remains = s }
-
-  pub pick-sum : {xs ys : List X} {c : X} → Pick xs c ys → Sum G xs ≡ c ⊕ Sum G ys
-  unfolding Sum
-  pick-sum Pick.here = refl
-  pick-sum (Pick.there {x = x} {c = c} {ys = ys} p) = pick-sum-step x c (Sum G ys) _ (pick-sum p)
-    where
-      pick-sum-step : (x c s t : X) → t ≡ c ⊕ s → x ⊕ t ≡ c ⊕ (x ⊕ s)
-      pick-sum-step x c s t e = rw e (simp (xor, G))
+use Rattle.spans.proofs.Xor.{xor, both}
+use Rattle.spans.proofs.Lists.{part-append, part-all, all-append, Perm, perm-blocks, pick-perm, pick-part, all-picks}
+use Rattle.spans.proofs.Span.{Span, at, zero, head, add, span-dec, mono, left-of, right-of}
+use Rattle.spans.proofs.Span.{span-perm, to-part, from-part, sum-in, pick-sum, expand, Uses, uses}
+use Rattle.spans.proofs.Indep.{Indep, first, rest, indep-part, indep-perm, exchanged}
+use Rattle.spans.proofs.Indep.{Extended, extend, extended-spans, independent, by-recursion}
 
 module _ {X : Type 0} (G : Space X) (P : X → Type 0) (S : List X) where
-  open Space G using (o, _⊕_, comm, assoc, self, left, dec)
+  open Space G using (_⊕_, assoc)
 
+  -- `Interchange` with the span and independence by recursion.
   pub record Swap (x y : X) : Type 0 where
     pub others : List X
     pub have : All P others
@@ -66,70 +41,75 @@ module _ {X : Type 0} (G : Space X) (P : X → Type 0) (S : List X) where
       fresh : ¬ Span G (m ++ S) x
       fresh s = first G (a .indep) (at G back (add G (add G s (right-of G m (a .sum))) (left-of G S (sum-in G m))))
 
-  module _ (x z c : X) (R N : List X) (i : Indep G (c ∷ (R ++ (N ++ S)))) (zc : Span G (R ++ (N ++ S)) (z ⊕ c)) where
-    not-z : ¬ Span G (R ++ (N ++ S)) z
-    not-z s = first G i (at G e (add G s zc))
-      where
-        e : z ⊕ (z ⊕ c) ≡ c
-        e = cancel G z c
-
-    regroup : Indep G (z ∷ ((R ++ N) ++ S))
-    regroup = rw append-assoc (Indep.more not-z (rest G i))
-
-    pub swap-core : Span G (R ++ (N ++ S)) (x ⊕ c) → All P R → All P N → Swap x z
-    unfolding Sum
-    swap-core xc aR aN =
-        let xz : Span G ((R ++ N) ++ S) (x ⊕ z) = rw append-assoc (at G (both G x z c) (add G xc zc)) in
-        let (w, sw, r) = halves G (R ++ N) S xz in
-        let (Z, p, e) = to-part G sw in
-        record {
-          others = Z;
-          have = part-all p (all-append aR aN);
-          indep = indep-part G (Part.keep (part-append S p)) regroup;
-          sum = at G (assoc x z w ∙ ap (λ (u : X). x ⊕ (z ⊕ u)) (sym e)) r;
-        }
-
-  module _ {x y z : X} (a : Swap x y) (b : Swap y z) where
-    -- The others of b, as far as they are new, beside y and the others of a.
-    e : Extended G (y ∷ (a .others ++ S)) (b .others)
-    e = extend G (b .others) (a .indep)
-
-    z-not : ¬ Span G (e .new ++ S) z
-    z-not s = first G (b .indep) (mono G (part-append S (e .chosen)) s)
-
-    z-from : (s : X) → (y ⊕ (z ⊕ s)) ⊕ (y ⊕ s) ≡ z
-    z-from s = simp (xor, G)
-
-    z-in : Span G (y ∷ (a .others ++ (e .new ++ S))) z
-    unfolding Sum
-    z-in =
-        span-perm G (perm-blocks (e .new) (y ∷ a .others) S)
-        (at G (z-from (Sum G (b .others)))
-        (add G (right-of G (e .new) (right-of G (y ∷ a .others) (b .sum)))
-        (add G (right-of G (e .new) (head G)) (through G (e .covers) (sum-in G (b .others))))))
-
-    one-from : (c s : X) → (x ⊕ (c ⊕ s)) ⊕ s ≡ x ⊕ c
-    one-from c s = simp (xor, G)
-
-    x-one : {c : X} {R : List X} → Pick (y ∷ a .others) c R → Span G (R ++ (e .new ++ S)) (x ⊕ c)
-    x-one {c} {R} p =
-        at G (one-from c (Sum G R))
-        (add G (right-of G R (right-of G (e .new) (at G (ap (λ (u : X). x ⊕ u) (pick-sum G p)) (a .sum)))) (left-of G (e .new ++ S) (sum-in G R)))
-
-    pub swap-trans : P y → Swap x z
-    swap-trans py =
-        let u = uses G (y ∷ a .others) (e .new ++ S) z z-in z-not in
-        swap-core x z (u .one) (u .others) (e .new)
-        (indep-perm G (pick-perm (e .new ++ S) (u .pick)) (indep-perm G (perm-blocks (e .new) (y ∷ a .others) S) (e .indep)))
-        (u .remains)
-        (x-one (u .pick))
-        (part-all (pick-part (u .pick)) (All.cons py (a .have)))
-        (part-all (e .chosen) (b .have))
-
-  -- The reader's relation.
-  pub to-reader : {x y : X} → Swap x y → Interchange G P S x y
+  -- x is z, up to a sum of elements that have P and are independent of z modulo S.
+  pub swap-up-to : {x z : X} (L : List X) → All P L → Indep G (z ∷ (L ++ S)) → Span G (L ++ S) (x ⊕ z) → Swap x z
   unfolding Sum
-  to-reader {x} {y} a =
+  swap-up-to {x} {z} L a i s =
+      let t = expand G L S s in
+      record {
+        others = t .used;
+        have = part-all (t .part) a;
+        indep = indep-part G (Part.keep (part-append S (t .part))) i;
+        sum = at G (assoc x z (Sum G (t .used))) (t .remains);
+      }
+
+  -- x is related to each member of its expansion modulo S.
+  pub swap-used : {x : X} (Z : List X) → All P Z → Indep G (Z ++ S) → Span G S (x ⊕ Sum G Z) → All (Swap x) Z
+  unfolding Sum
+  swap-used {x} Z a i s =
+      all-picks Z
+      (λ c R p. record {
+        others = R;
+        have = part-all (pick-part p) a;
+        indep = indep-perm G (pick-perm S p) i;
+        sum = at G (ap (λ (u : X). x ⊕ u) (pick-sum G p)) s;
+      })
+
+  -- Beside y and the others of a stand the others of b, as far as they are new. z uses y or one of the others of a, which
+  -- is c; x uses c too; so x is z up to the rest.
+  pub swap-trans : {x y z : X} → Swap x y → Swap y z → P y → Swap x z
+  unfolding Sum
+  swap-trans {x} {y} {z} a b py =
+      swap-up-to (u .others ++ new)
+      (all-append (part-all (pick-part (u .pick)) (All.cons py (a .have))) (part-all (e .chosen) (b .have)))
+      (rw append-assoc (exchanged G (indep-perm G (pick-perm (new ++ S) (u .pick)) (indep-perm G blocks (e .indep))) (u .remains) .indep))
+      (rw append-assoc (at G (both G x z (u .one)) (add G x-uses (u .remains))))
+    where
+      e : Extended G (y ∷ (a .others ++ S)) (b .others)
+      e = extend G (b .others) (a .indep)
+
+      new : List X
+      new = e .new
+
+      blocks : Perm (new ++ (y ∷ (a .others ++ S))) (y ∷ (a .others ++ (new ++ S)))
+      blocks = perm-blocks new (y ∷ a .others) S
+
+      z-sum : (s : X) → (y ⊕ (z ⊕ s)) ⊕ (y ⊕ s) ≡ z
+      z-sum s = simp (xor, G)
+
+      z-in : Span G (y ∷ (a .others ++ (new ++ S))) z
+      z-in =
+          span-perm G blocks
+          (at G (z-sum (Sum G (b .others)))
+          (add G (right-of G new (right-of G (y ∷ a .others) (b .sum)))
+          (add G (right-of G new (head G)) (extended-spans G e (sum-in G (b .others))))))
+
+      u : Uses G (y ∷ a .others) (new ++ S) z
+      u = uses G (y ∷ a .others) (new ++ S) z z-in (λ s. first G (b .indep) (mono G (part-append S (e .chosen)) s))
+
+      x-sum : (c s : X) → (x ⊕ (c ⊕ s)) ⊕ s ≡ x ⊕ c
+      x-sum c s = simp (xor, G)
+
+      x-uses : Span G (u .others ++ (new ++ S)) (x ⊕ u .one)
+      x-uses =
+          at G (x-sum (u .one) (Sum G (u .others)))
+          (add G (right-of G (u .others) (right-of G new (at G (ap (λ (v : X). x ⊕ v) (pick-sum G (u .pick))) (a .sum))))
+          (left-of G (new ++ S) (sum-in G (u .others))))
+
+  -- The reader's relation, both ways.
+  pub swap-interchange : {x y : X} → Swap x y → Interchange G P S x y
+  unfolding Sum
+  swap-interchange {x} {y} a =
       let (short, p, e) = to-part G (a .sum) in
       record {
         others = a .others;
@@ -140,9 +120,9 @@ module _ {X : Type 0} (G : Space X) (P : X → Type 0) (S : List X) where
         independent = independent G (a .indep);
       }
 
-  pub from-reader : {x y : X} → Interchange G P S x y → Swap x y
+  pub interchange-swap : {x y : X} → Interchange G P S x y → Swap x y
   unfolding Sum
-  from-reader {x} {y} a =
+  interchange-swap {x} {y} a =
       record {
         others = a .others;
         have = a .have;
@@ -153,28 +133,28 @@ module _ {X : Type 0} (G : Space X) (P : X → Type 0) (S : List X) where
       solve : (s t : X) → x ≡ y ⊕ (s ⊕ t) → t ≡ x ⊕ (y ⊕ s)
       solve s t e = rw e (simp (xor, G))
 
--- With no condition on the others the relation says nothing: all that lies outside the span of S is related.
-module _ {X : Type 0} (G : Space X) (S : List X) (i : Indep G S) (x y : X) (nx : ¬ Span G S x) (ny : ¬ Span G S y) where
+-- Why the others must have P: else any two elements outside the span of S are related.
+module _ {X : Type 0} (G : Space X) where
   open Space G using (o, _⊕_)
 
-  apart : ¬ Span G S (x ⊕ y) → Span G ((x ⊕ y) ∷ S) y → ⊥
-  apart n (Span.skip s) = ny s
-  apart n (Span.take s) = nx (at G e s)
-    where
-      e : y ⊕ (x ⊕ y) ≡ x
-      e = simp (xor, G)
-
-  by-cases : Dec (Span G S (x ⊕ y)) → Swap G (λ _. Unit {0}) S x y
+  pub swap-unconditioned : {S : List X} {x y : X} → Indep G S → ¬ Span G S x → ¬ Span G S y → Swap G (λ _. Unit {0}) S x y
   unfolding Sum
-  by-cases (yes s) = record { others = []; have = All.nil; indep = Indep.more ny i; sum = at G e s }
+  swap-unconditioned {S} {x} {y} i nx ny = by-cases (span-dec G S (x ⊕ y))
     where
-      e : x ⊕ y ≡ x ⊕ (y ⊕ o)
-      e = simp (xor, G)
-  by-cases (no n) =
-      record { others = (x ⊕ y) ∷ []; have = All.cons tt All.nil; indep = Indep.more (λ s. apart n s) (Indep.more n i); sum = at G e (zero G S) }
-    where
-      e : o ≡ x ⊕ (y ⊕ ((x ⊕ y) ⊕ o))
-      e = simp (xor, G)
+      alone : x ⊕ y ≡ x ⊕ (y ⊕ o)
+      alone = simp (xor, G)
 
-  pub trivial : Swap G (λ _. Unit {0}) S x y
-  trivial = by-cases (span-dec G S (x ⊕ y))
+      with-sum : o ≡ x ⊕ (y ⊕ ((x ⊕ y) ⊕ o))
+      with-sum = simp (xor, G)
+
+      x-again : y ⊕ (x ⊕ y) ≡ x
+      x-again = simp (xor, G)
+
+      apart : Span G ((x ⊕ y) ∷ S) y → ⊥
+      apart (Span.skip s) = ny s
+      apart (Span.take s) = nx (at G x-again s)
+
+      by-cases : Dec (Span G S (x ⊕ y)) → Swap G (λ _. Unit {0}) S x y
+      by-cases (yes s) = record { others = []; have = All.nil; indep = Indep.more ny i; sum = at G alone s }
+      by-cases (no n) =
+          record { others = (x ⊕ y) ∷ []; have = All.cons tt All.nil; indep = Indep.more apart (Indep.more n i); sum = at G with-sum (zero G S) }

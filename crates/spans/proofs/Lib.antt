@@ -1,5 +1,7 @@
+-- Lemmas on spans, from sums and lists up to bases and classes.
 pub mod Xor
 pub mod Lists
+pub mod Sift
 pub mod Span
 pub mod Indep
 pub mod Steinitz
@@ -7,6 +9,8 @@ pub mod Graded
 pub mod Interchange
 pub mod Minimum
 pub mod Classes
+pub mod Labelled
+pub mod Labels
 pub mod Greedy
 pub mod Profile
 pub mod Short

@@ -1,9 +1,31 @@
--- Parts of a list, and what holds of each element.
-use mathlib.Core.Path.{_≡_, refl}
+-- Parts of a list, its orders, and what holds of each member.
 use mathlib.Core.List.{List, [], _∷_, _++_}
 use Rattle.spans.specs.Basis.{Part, All}
 
 module _ {X : Type 0} where
+  -- Parts.
+
+  pub part-refl : (xs : List X) → Part xs xs
+  part-refl [] = Part.nil
+  part-refl (x ∷ xs) = Part.keep (part-refl xs)
+
+  pub part-none : (xs : List X) → Part xs []
+  part-none [] = Part.nil
+  part-none (x ∷ xs) = Part.skip (part-none xs)
+
+  pub part-trans : {xs ys zs : List X} → Part xs ys → Part ys zs → Part xs zs
+  part-trans Part.nil Part.nil = Part.nil
+  part-trans (Part.keep p) (Part.keep q) = Part.keep (part-trans p q)
+  part-trans (Part.keep p) (Part.skip q) = Part.skip (part-trans p q)
+  part-trans (Part.skip p) q = Part.skip (part-trans p q)
+
+  pub part-append : {xs ys : List X} (zs : List X) → Part xs ys → Part (xs ++ zs) (ys ++ zs)
+  part-append zs Part.nil = part-refl zs
+  part-append zs (Part.keep p) = Part.keep (part-append zs p)
+  part-append zs (Part.skip p) = Part.skip (part-append zs p)
+
+  -- What holds of each member.
+
   pub part-all : {P : X → Type 0} {xs ys : List X} → Part xs ys → All P xs → All P ys
   part-all Part.nil All.nil = All.nil
   part-all (Part.keep p) (All.cons a r) = All.cons a (part-all p r)
@@ -12,6 +34,10 @@ module _ {X : Type 0} where
   pub all-map : {P Q : X → Type 0} {xs : List X} → ((x : X) → P x → Q x) → All P xs → All Q xs
   all-map f All.nil = All.nil
   all-map f (All.cons {x = x} a r) = All.cons (f x a) (all-map f r)
+
+  pub all-and : {P Q : X → Type 0} {xs : List X} → All P xs → All Q xs → All (λ x. P x × Q x) xs
+  all-and All.nil All.nil = All.nil
+  all-and (All.cons a r) (All.cons b s) = All.cons (a, b) (all-and r s)
 
   pub all-append : {P : X → Type 0} {xs ys : List X} → All P xs → All P ys → All P (xs ++ ys)
   all-append All.nil bs = bs
@@ -25,13 +51,13 @@ module _ {X : Type 0} where
   all-right [] ys r = r
   all-right (x ∷ xs) ys (All.cons a r) = all-right xs ys r
 
-  pub part-refl : (xs : List X) → Part xs xs
-  part-refl [] = Part.nil
-  part-refl (x ∷ xs) = Part.keep (part-refl xs)
+  pub all-head : {P : X → Type 0} {x : X} {xs : List X} → All P (x ∷ xs) → P x
+  all-head (All.cons a r) = a
 
-  pub part-none : (xs : List X) → Part xs []
-  part-none [] = Part.nil
-  part-none (x ∷ xs) = Part.skip (part-none xs)
+  pub all-tail : {P : X → Type 0} {x : X} {xs : List X} → All P (x ∷ xs) → All P xs
+  all-tail (All.cons a r) = r
+
+  -- Orders.
 
   -- One list is another in a different order.
   pub data Perm : List X → List X → Type 0 where
@@ -54,29 +80,34 @@ module _ {X : Type 0} where
   perm-front [] y ys = perm-refl (y ∷ ys)
   perm-front (x ∷ xs) y ys = Perm.trans (Perm.cons (perm-front xs y ys)) Perm.swap
 
+  pub perm-left : (xs : List X) {ys zs : List X} → Perm ys zs → Perm (xs ++ ys) (xs ++ zs)
+  perm-left [] p = p
+  perm-left (x ∷ xs) p = Perm.cons (perm-left xs p)
+
+  pub perm-right : {xs ys : List X} (zs : List X) → Perm xs ys → Perm (xs ++ zs) (ys ++ zs)
+  perm-right zs Perm.nil = perm-refl zs
+  perm-right zs (Perm.cons p) = Perm.cons (perm-right zs p)
+  perm-right zs Perm.swap = Perm.swap
+  perm-right zs (Perm.trans p q) = Perm.trans (perm-right zs p) (perm-right zs q)
+
   pub perm-comm : (xs ys : List X) → Perm (xs ++ ys) (ys ++ xs)
   perm-comm [] [] = Perm.nil
   perm-comm [] (y ∷ ys) = Perm.cons (perm-comm [] ys)
   perm-comm (x ∷ xs) ys = Perm.trans (Perm.cons (perm-comm xs ys)) (perm-sym (perm-front ys x xs))
 
-  pub all-and : {P Q : X → Type 0} {xs : List X} → All P xs → All Q xs → All (λ x. P x × Q x) xs
-  all-and All.nil All.nil = All.nil
-  all-and (All.cons a r) (All.cons b s) = All.cons (a, b) (all-and r s)
-
-  pub part-append : {xs ys : List X} (zs : List X) → Part xs ys → Part (xs ++ zs) (ys ++ zs)
-  part-append zs Part.nil = part-refl zs
-  part-append zs (Part.keep p) = Part.keep (part-append zs p)
-  part-append zs (Part.skip p) = Part.skip (part-append zs p)
-
-  pub perm-left : (xs : List X) {ys zs : List X} → Perm ys zs → Perm (xs ++ ys) (xs ++ zs)
-  perm-left [] p = p
-  perm-left (x ∷ xs) p = Perm.cons (perm-left xs p)
-
   pub perm-blocks : (xs ys zs : List X) → Perm (xs ++ (ys ++ zs)) (ys ++ (xs ++ zs))
   perm-blocks [] ys zs = perm-refl (ys ++ zs)
   perm-blocks (x ∷ xs) ys zs = Perm.trans (Perm.cons (perm-blocks xs ys zs)) (perm-sym (perm-front ys x (xs ++ zs)))
 
-  -- One element of a list, and the others.
+  pub all-perm : {P : X → Type 0} {xs ys : List X} → Perm xs ys → All P xs → All P ys
+  all-perm Perm.nil r = r
+  all-perm (Perm.cons p) (All.cons a r) = All.cons a (all-perm p r)
+  all-perm Perm.swap (All.cons a (All.cons b r)) = All.cons b (All.cons a r)
+  all-perm (Perm.trans p q) r = all-perm q (all-perm p r)
+
+  -- One member and the others.
+
+  -- c is a member of the first list, and the second holds the others.
   pub data Pick : List X → X → List X → Type 0 where
     here : {c : X} {xs : List X} → Pick (c ∷ xs) c xs
     there : {x c : X} {xs ys : List X} → Pick xs c ys → Pick (x ∷ xs) c (x ∷ ys)
@@ -89,24 +120,14 @@ module _ {X : Type 0} where
   pick-part {ys} Pick.here = Part.skip (part-refl ys)
   pick-part (Pick.there p) = Part.keep (pick-part p)
 
-  pub all-perm : {P : X → Type 0} {xs ys : List X} → Perm xs ys → All P xs → All P ys
-  all-perm Perm.nil r = r
-  all-perm (Perm.cons p) (All.cons a r) = All.cons a (all-perm p r)
-  all-perm Perm.swap (All.cons a (All.cons b r)) = All.cons b (All.cons a r)
-  all-perm (Perm.trans p q) r = all-perm q (all-perm p r)
+  pub pick-middle : (before : List X) (x : X) (after : List X) → Pick (before ++ (x ∷ after)) x (before ++ after)
+  pick-middle [] x after = Pick.here
+  pick-middle (y ∷ before) x after = Pick.there (pick-middle before x after)
 
   pub all-pick : {P : X → Type 0} {xs ys : List X} {c : X} → Pick xs c ys → All P xs → P c
   all-pick Pick.here (All.cons a r) = a
   all-pick (Pick.there p) (All.cons a r) = all-pick p r
 
-  pub perm-right : {xs ys : List X} (zs : List X) → Perm xs ys → Perm (xs ++ zs) (ys ++ zs)
-  perm-right zs Perm.nil = perm-refl zs
-  perm-right zs (Perm.cons p) = Perm.cons (perm-right zs p)
-  perm-right zs Perm.swap = Perm.swap
-  perm-right zs (Perm.trans p q) = Perm.trans (perm-right zs p) (perm-right zs q)
-
-  pub part-trans : {xs ys zs : List X} → Part xs ys → Part ys zs → Part xs zs
-  part-trans Part.nil Part.nil = Part.nil
-  part-trans (Part.keep p) (Part.keep q) = Part.keep (part-trans p q)
-  part-trans (Part.keep p) (Part.skip q) = Part.skip (part-trans p q)
-  part-trans (Part.skip p) q = Part.skip (part-trans p q)
+  pub all-picks : {P : X → Type 0} (xs : List X) → ((c : X) (ys : List X) → Pick xs c ys → P c) → All P xs
+  all-picks [] f = All.nil
+  all-picks (x ∷ xs) f = All.cons (f x xs Pick.here) (all-picks xs (λ c ys p. f c (x ∷ ys) (Pick.there p)))

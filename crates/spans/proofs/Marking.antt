@@ -10,13 +10,14 @@ use Rattle.spans.specs.Group.{Space}
 use Rattle.spans.specs.Basis.{Part, All, Basis}
 use Rattle.spans.specs.Graded.{below, Graded, Minimum}
 use Rattle.spans.proofs.Xor.{undo}
-use Rattle.spans.proofs.Lists.{part-all, part-refl, part-trans, all-map, all-and, all-append, perm-comm}
+use Rattle.spans.proofs.Lists.{all-head, all-tail, part-all, part-refl, part-trans, all-map, all-and, all-append, perm-comm}
 use Rattle.spans.proofs.Span.{Span, at, add, head, span-dec, through, own, mono, left-of, right-of}
 use Rattle.spans.proofs.Indep.{Indep, indep-perm}
-use Rattle.spans.proofs.Steinitz.{spanned, spans}
-use Rattle.spans.proofs.Graded.{Split, split, split-part, split-low, fills, graded-minimum}
+use Rattle.spans.proofs.Steinitz.{spanned, spans, fills}
+use Rattle.spans.proofs.Graded.{split, split-part, split-low, graded-minimum}
+use Rattle.spans.proofs.Sift.{Sift}
 use Rattle.spans.proofs.Minimum.{basis}
-use Rattle.spans.proofs.Short.{all-first, all-rest, Short, Relevant, SpansShort, short-one, short-mono, short-span, span-short, not-span-relevant}
+use Rattle.spans.proofs.Short.{Short, Relevant, SpansShort, short-one, short-mono, short-span, span-short, not-span-relevant}
 
 module _ {X : Type 0} where
   -- What holds of all elements holds of each.
@@ -62,10 +63,10 @@ module _ {X : Type 0} (G : Space X) where
   marking-all (Marking.skip s m) b (All.cons a r) = marking-all m b r
 
   module _ (ℓ : X → ℕ) where
-    low-own : {k : ℕ} {xs ys : List X} → Split ℓ k xs ys → All (λ x. ℓ x < k → Span G ys x) xs
-    low-own Split.nil = All.nil
-    low-own (Split.low p s) = All.cons (λ h. head G) (all-map (λ x f h. Span.skip (f h)) (low-own s))
-    low-own (Split.high n s) = All.cons (λ h. absurd (n h)) (low-own s)
+    low-own : {k : ℕ} {xs ys : List X} → Sift (λ x. ℓ x < k) xs ys → All (λ x. ℓ x < k → Span G ys x) xs
+    low-own Sift.nil = All.nil
+    low-own (Sift.inn p s) = All.cons (λ h. head G) (all-map (λ x f h. Span.skip (f h)) (low-own s))
+    low-own (Sift.out n s) = All.cons (λ h. absurd (n h)) (low-own s)
 
     reach : {M zs : List X} {p : X} → Part M zs → All (λ z. ℓ z ≤ ℓ p) zs → Span G zs p → Span G (below ℓ (suc (ℓ p)) M) p
     reach {M} {p} q a s =
@@ -76,12 +77,12 @@ module _ {X : Type 0} (G : Space X) where
         → All (λ p. Span G (below ℓ (suc (ℓ p)) M) p) ps
     marking-reach Marking.end r a = All.nil
     marking-reach (Marking.mark {before = before} {p = p} n m) (Rising.cons h r) a =
-        let b = all-append (all-map (λ z f. all-rest f) a) (All.cons h All.nil) in
+        let b = all-append (all-map (λ z f. all-tail f) a) (All.cons h All.nil) in
         All.cons
-        (reach (marking-kept m) (all-append (all-map (λ z f. all-first f) a) (All.cons (omega arith) All.nil)) (right-of G before (head G)))
+        (reach (marking-kept m) (all-append (all-map (λ z f. all-head f) a) (All.cons (omega arith) All.nil)) (right-of G before (head G)))
         (marking-reach m r b)
     marking-reach (Marking.skip s m) (Rising.cons h r) a =
-        All.cons (reach (marking-kept m) (all-map (λ z f. all-first f) a) s) (marking-reach m r (all-map (λ z f. all-rest f) a))
+        All.cons (reach (marking-kept m) (all-map (λ z f. all-head f) a) s) (marking-reach m r (all-map (λ z f. all-tail f) a))
 
 module _ {X : Type 0} (G : Space X) (ℓ : X → ℕ) (W : X → Type 0) where
   open Space G using (_⊕_)
@@ -169,7 +170,7 @@ module _ {X : Type 0} (G : Space X) (ℓ : X → ℕ) (W : X → Type 0) where
     pub marking-minimum : Minimum G ℓ W M
     marking-minimum =
         graded-minimum G ℓ W
-        (basis G ℓ W marked-inside (marking-indep G m Indep.none)
+        (basis G W marked-inside (marking-indep G m Indep.none)
         (λ s w. mono G (split-part ℓ (split ℓ (suc (ℓ s)) M)) (spanned G (marking-graded .spans (suc (ℓ s))) s (w, omega arith))))
         marking-graded
 
@@ -181,7 +182,7 @@ module _ {X : Type 0} (G : Space X) (ℓ : X → ℕ) (W : X → Type 0) where
       short : Short G ℓ W k x
       short =
           span-short G ℓ W (h .inside)
-          (fills G ℓ W i (all-map (λ w p. spanned G (b .spans) w (p .0)) (h .inside)) e (spanned G (b .spans) x (r .inside)))
+          (fills G i (all-map (λ w p. spanned G (b .spans) w (p .0)) (h .inside)) e (spanned G (b .spans) x (r .inside)))
 
       go : Dec (ℓ x < k) → ℓ x < k
       go (yes p) = p

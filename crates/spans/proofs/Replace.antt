@@ -1,5 +1,5 @@
 -- Two relevant elements replace each other in some minimum basis if and only if they are interchangeable over the shorter ones.
-use mathlib.Core.Path.{_≡_, refl, sym, _∙_, ap}
+use mathlib.Core.Path.{_≡_, refl, sym, _∙_}
 use mathlib.Core.List.{List, [], _∷_, _++_, append-assoc}
 use Prim.Native.Nat.{ℕ, suc, _+_, _<_, _≤_}
 use native.Mathlib.Omega.{arith}
@@ -9,17 +9,16 @@ use Rattle.spans.specs.Group.{Space}
 use Rattle.spans.specs.Basis.{Part, All, Sum, Basis}
 use Rattle.spans.specs.Graded.{keep-if, total, below, Minimum}
 use Rattle.spans.proofs.Xor.{xor}
-use Rattle.spans.proofs.Lists.{part-all, part-append, all-map, all-and, all-append, all-left, all-right, all-perm}
-use Rattle.spans.proofs.Lists.{Perm, perm-sym, perm-front, perm-left, perm-blocks, Pick, pick-perm, pick-part}
-use Rattle.spans.proofs.Span.{Span, at, add, expand, through, own, own-part, left-of, right-of}
-use Rattle.spans.proofs.Indep.{Indep, first, indep-part, indep-perm, indep-right, Extended, extend}
+use Rattle.spans.proofs.Lists.{all-head, all-tail, part-all, part-append, all-map, all-and, all-append, all-left, all-right, all-perm}
+use Rattle.spans.proofs.Lists.{Perm, perm-sym, perm-front, perm-left, perm-blocks, Pick, all-pick}
+use Rattle.spans.proofs.Span.{Span, at, add, sum-in, through, own, own-part, left-of, right-of}
+use Rattle.spans.proofs.Indep.{Indep, indep-fresh, span-over, indep-over, first, indep-part, indep-perm, indep-right, Extended, extend}
 use Rattle.spans.proofs.Steinitz.{steinitz, spanned}
-use Rattle.spans.proofs.Interchange.{Swap, sum-in, pick-sum}
+use Rattle.spans.proofs.Interchange.{Swap, swap-used, swap-up-to}
 use Rattle.spans.proofs.Graded.{split, split-part, split-low, split-long, total-perm}
 use Rattle.spans.proofs.Minimum.{basis, basis-indep, basis-perm, basis-swap, minimum-graded}
 use Rattle.spans.proofs.Classes.{Level}
 use Rattle.spans.proofs.Profile.{exact, own-level}
-use Rattle.spans.proofs.Short.{all-first, all-rest}
 use Rattle.spans.proofs.Short.{Short, Relevant, SpansShort, short-one, span-short, relevant-not-span, not-span-relevant, minimum-spans-short, minimum-perm}
 
 module _ {X : Type 0} (ℓ : X → ℕ) where
@@ -72,46 +71,16 @@ module _ {X : Type 0} (ℓ : X → ℕ) where
 module _ {X : Type 0} (G : Space X) where
   open Space G using (_⊕_, assoc)
 
-  module _ {S T : List X} (f : (v : X) → Span G T v → Span G S v) where
-    -- With a larger span behind it a list spans more.
-    pub span-over : (L : List X) {v : X} → Span G (L ++ T) v → Span G (L ++ S) v
-    span-over [] {v} s = f v s
-    span-over (x ∷ L) (Span.skip s) = Span.skip (span-over L s)
-    span-over (x ∷ L) (Span.take s) = Span.take (span-over L s)
-
-    -- Independent over a list, independent over another that spans no more.
-    pub indep-over : (L : List X) → Indep G T → Indep G (L ++ S) → Indep G (L ++ T)
-    indep-over [] i j = i
-    indep-over (x ∷ L) i (Indep.more n j) = Indep.more (λ s. n (span-over L s)) (indep-over L i j)
-
-  apart : (L : List X) {S : List X} → Indep G (L ++ S) → All (λ x. ¬ Span G S x) L
-  apart [] i = All.nil
-  apart (x ∷ L) (Indep.more n i) = All.cons (λ s. n (right-of G L s)) (apart L i)
-
   module _ {P : X → Type 0} {S : List X} where
     -- x stands for each element of its expansion.
     pub expansion-swap : {M U R : List X} {x u : X} → All P M → Indep G (M ++ S) → Part M U → Span G S (x ⊕ Sum G U) → Pick U u R → Swap G P S x u
-    unfolding Sum
-    expansion-swap {R} {x} a i p s q =
-        record {
-          others = R;
-          have = part-all (pick-part q) (part-all p a);
-          indep = indep-perm G (pick-perm S q) (indep-part G (part-append S p) i);
-          sum = at G (ap (λ (u : X). x ⊕ u) (pick-sum G q)) s;
-        }
+    expansion-swap {U} a i p s q = all-pick q (swap-used G P S U (part-all p a) (indep-part G (part-append S p) i) s)
 
     -- x stands for y if y and the others span it, and the others alone do not.
     pub exchange-swap : (E : List X) {x y : X} → All P E → Indep G (y ∷ (E ++ S)) → ¬ Span G (E ++ S) x → Span G (y ∷ (E ++ S)) x → Swap G P S x y
     unfolding Sum
     exchange-swap E a i n (Span.skip s) = absurd (n s)
-    exchange-swap E a i n (Span.take s) =
-        let t = expand G E S s in
-        record {
-          others = t .used;
-          have = part-all (t .part) a;
-          indep = indep-part G (Part.keep (part-append S (t .part))) i;
-          sum = at G (assoc _ _ _) (t .remains);
-        }
+    exchange-swap E a i n (Span.take s) = swap-up-to G P S E a i s
 
 module _ {X : Type 0} (G : Space X) (ℓ : X → ℕ) (W : X → Type 0) where
   open Space G using (_⊕_)
@@ -144,7 +113,7 @@ module _ {X : Type 0} (G : Space X) (ℓ : X → ℕ) (W : X → Type 0) where
   -- One element of a minimum basis leaves for another that uses it and is not longer.
   pub minimum-swap : {x y : X} {R : List X} → Minimum G ℓ W (y ∷ R) → W x → ℓ x ≤ ℓ y → Span G R (x ⊕ y) → Minimum G ℓ W (x ∷ R)
   unfolding total
-  minimum-swap m w h s = record { basis = basis-swap G ℓ W (m .basis) w s; least = λ C c. omega (arith, m .least C c) }
+  minimum-swap m w h s = record { basis = basis-swap G W (m .basis) w s; least = λ C c. omega (arith, m .least C c) }
 
   -- What stands behind the elements of length j or more of a minimum basis spans the sums of elements shorter than j.
   tail-spans-short : {j : ℕ} {B T : List X} (long : List X) → Minimum G ℓ W B → Perm B (long ++ T)
@@ -160,14 +129,14 @@ module _ {X : Type 0} (G : Space X) (ℓ : X → ℕ) (W : X → Type 0) where
       }
 
   -- L and some others are a minimum basis, and the others span what low spans.
-  pub record Holding (L low : List X) : Type 0 where
+  pub record Held (L low : List X) : Type 0 where
     pub others : List X
     pub minimum : Minimum G ℓ W (L ++ others)
     pub reach : (v : X) → Span G low v → Span G others v
 
   module _ {k : ℕ} {B L : List X} (m : Minimum G ℓ W B) (l : Layers ℓ k B) (a : All (λ x. W x × (ℓ x ≡ k)) L) (i : Indep G (L ++ l .low)) where
     b : Basis G W (l .long ++ (l .mid ++ l .low))
-    b = basis-perm G ℓ W (l .perm) (m .basis)
+    b = basis-perm G W (l .perm) (m .basis)
 
     e : Extended G (L ++ l .low) (l .mid)
     e = extend G (l .mid) i
@@ -188,7 +157,7 @@ module _ {X : Type 0} (G : Space X) (ℓ : X → ℕ) (W : X → Type 0) where
     count : length (e .new ++ L) ≡ length (l .mid)
     count =
         let s = steinitz G (e .indep) forth in
-        let t = steinitz G (indep-right G (l .long) (l .mid ++ l .low) (basis-indep G ℓ W b)) back in
+        let t = steinitz G (indep-right G (l .long) (l .mid ++ l .low) (basis-indep G W b)) back in
         omega (arith, length-append (e .new) (L ++ l .low), length-append L (l .low), length-append (l .mid) (l .low), length-append (e .new) L)
 
     same-total : total ℓ (l .long ++ (e .new ++ (L ++ l .low))) ≡ total ℓ B
@@ -199,14 +168,14 @@ module _ {X : Type 0} (G : Space X) (ℓ : X → ℕ) (W : X → Type 0) where
     held : Basis G W (l .long ++ (e .new ++ (L ++ l .low)))
     held =
         let w = all-right (l .long) (l .mid ++ l .low) (b .inside) in
-        basis G ℓ W
+        basis G W
         (all-append (all-left (l .long) (l .mid ++ l .low) (b .inside))
         (all-append (part-all (e .chosen) (all-left (l .mid) (l .low) w)) (all-append (all-map (λ x p. p .0) a) (all-right (l .mid) (l .low) w))))
-        (indep-over G (λ v t. through G forth t) (l .long) (e .indep) (basis-indep G ℓ W b))
+        (indep-over G (λ v t. through G forth t) (l .long) (e .indep) (basis-indep G W b))
         (λ s q. span-over G (λ v t. through G back t) (l .long) (spanned G (b .spans) s q))
 
     -- A list of elements of length k that is independent over the shorter ones is held by a minimum basis.
-    pub hold : Holding L (l .low)
+    pub hold : Held L (l .low)
     hold =
         record {
           others = l .long ++ (e .new ++ l .low);
@@ -221,7 +190,7 @@ module _ {X : Type 0} (G : Space X) (ℓ : X → ℕ) (W : X → Type 0) where
     low-perm = rw append-assoc (l .perm)
 
     low-indep : Indep G (l .low)
-    low-indep = indep-right G (l .long ++ l .mid) (l .low) (indep-perm G low-perm (basis-indep G ℓ W (m .basis)))
+    low-indep = indep-right G (l .long ++ l .mid) (l .low) (indep-perm G low-perm (basis-indep G W (m .basis)))
 
     low-spans-short : SpansShort G ℓ W k (l .low)
     low-spans-short =
@@ -232,7 +201,7 @@ module _ {X : Type 0} (G : Space X) (ℓ : X → ℕ) (W : X → Type 0) where
   others-cancel x y s = simp (xor, G)
 
   -- Where y and the others are held by a minimum basis, x can stand in the place of y.
-  held-replace : {P : X → Type 0} {T : List X} {x y : X} (t : Swap G P T x y) → Holding (y ∷ t .others) T → W x → ℓ x ≤ ℓ y → Replaces x y
+  held-replace : {P : X → Type 0} {T : List X} {x y : X} (t : Swap G P T x y) → Held (y ∷ t .others) T → W x → ℓ x ≤ ℓ y → Replaces x y
   unfolding Sum
   held-replace {x} {y} t H w h =
       let s = Sum G (t .others) in
@@ -263,7 +232,7 @@ module _ {X : Type 0} (G : Space X) (ℓ : X → ℕ) (W : X → Type 0) where
         let l = own-level G ℓ W k B (m .basis) (minimum-graded G ℓ W m) in
         let t = minimum-spans-short G ℓ W m k in
         record {
-          have = all-map (λ x p. (not-span-relevant G ℓ W t (p .0 .0) (p .0 .1) (p .1), p .0 .1)) (all-and (l .have) (apart G (exact ℓ k B) (l .indep)));
+          have = all-map (λ x p. (not-span-relevant G ℓ W t (p .0 .0) (p .0 .1) (p .1), p .0 .1)) (all-and (l .have) (indep-fresh G (exact ℓ k B) (l .indep)));
           indep = indep-over G (spans-short-agree t h) (exact ℓ k B) i (l .indep);
           covers = λ x p. span-over G (spans-short-agree h t) (exact ℓ k B) (l .covers x (p .0 .inside, p .1));
         }
@@ -272,7 +241,7 @@ module _ {X : Type 0} (G : Space X) (ℓ : X → ℕ) (W : X → Type 0) where
     first-swap {x} {y} {R} m n e d =
         let l : Level G (RelevantOf k) S (x ∷ exact ℓ k R) = rw (exact-first ℓ x R e) at (minimum-level m) in
         let t : Level G (RelevantOf k) S (y ∷ exact ℓ k R) = rw (exact-first ℓ y R d) at (minimum-level n) in
-        exchange-swap G (exact ℓ k R) (all-rest (l .have)) (t .indep) (first G (l .indep)) (t .covers x (all-first (l .have)))
+        exchange-swap G (exact ℓ k R) (all-tail (l .have)) (t .indep) (first G (l .indep)) (t .covers x (all-head (l .have)))
 
     -- What replaces x in a minimum basis is interchangeable with x.
     pub replace-swap : (before : List X) {x y : X} (after : List X)

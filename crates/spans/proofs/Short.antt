@@ -7,31 +7,12 @@ use Rattle.spans.specs.Group.{Space}
 use Rattle.spans.specs.Basis.{All, Sum, Basis, Subgroup}
 use Rattle.spans.specs.Graded.{below, Graded, Minimum}
 use Rattle.spans.proofs.Xor.{right}
-use Rattle.spans.proofs.Lists.{part-all, all-map, all-and, all-append, all-pick, Perm, Pick}
+use Rattle.spans.proofs.Lists.{pick-middle, all-picks, part-all, all-map, all-and, all-append, all-pick, Perm, Pick}
 use Rattle.spans.proofs.Span.{Span, at, through, to-part}
-use Rattle.spans.proofs.Interchange.{sum-in}
+use Rattle.spans.proofs.Span.{sum-in}
 use Rattle.spans.proofs.Steinitz.{spanned, span-inside}
 use Rattle.spans.proofs.Graded.{split, split-part, split-low, total-perm}
 use Rattle.spans.proofs.Minimum.{basis-perm, minimum-graded, relevant-in, in-relevant}
-
-module _ {X : Type 0} where
-  -- What holds of all elements holds of the first.
-  pub all-first : {P : X → Type 0} {x : X} {xs : List X} → All P (x ∷ xs) → P x
-  all-first (All.cons a r) = a
-
-  -- And of the others.
-  pub all-rest : {P : X → Type 0} {x : X} {xs : List X} → All P (x ∷ xs) → All P xs
-  all-rest (All.cons a r) = r
-
-  -- What holds of each element that can be picked holds of all.
-  pub all-picked : {K : X → Type 0} (xs : List X) → ((c : X) (R : List X) → Pick xs c R → K c) → All K xs
-  all-picked [] f = All.nil
-  all-picked (x ∷ xs) f = All.cons (f x xs Pick.here) (all-picked xs (λ c R p. f c (x ∷ R) (Pick.there p)))
-
-  -- The element that stands after `before` can be picked.
-  pub pick-middle : (before : List X) (x : X) (after : List X) → Pick (before ++ (x ∷ after)) x (before ++ after)
-  pick-middle [] x after = Pick.here
-  pick-middle (y ∷ before) x after = Pick.there (pick-middle before x after)
 
 module _ {X : Type 0} (G : Space X) where
   open Space G using (o, _⊕_, left, assoc)
@@ -128,7 +109,7 @@ module _ {X : Type 0} (G : Space X) (ℓ : X → ℕ) (W : X → Type 0) where
 
     -- All elements of a minimum basis are relevant.
     pub minimum-relevant : Minimum G ℓ W B → All Relevant B
-    minimum-relevant m = all-picked B (λ c R p. pick-minimum-relevant m p)
+    minimum-relevant m = all-picks B (λ c R p. pick-minimum-relevant m p)
 
     -- A relevant element is in a minimum basis, if there is one at all.
     pub relevant-in-minimum : {x : X} → Minimum G ℓ W B → Relevant x → (R : List X) × Minimum G ℓ W (x ∷ R)
@@ -144,4 +125,4 @@ module _ {X : Type 0} (G : Space X) (ℓ : X → ℕ) (W : X → Type 0) where
 
   -- A minimum basis in another order is a minimum basis.
   pub minimum-perm : {B C : List X} → Perm B C → Minimum G ℓ W B → Minimum G ℓ W C
-  minimum-perm p m = record { basis = basis-perm G ℓ W p (m .basis); least = λ D d. omega (arith, total-perm ℓ p, m .least D d) }
+  minimum-perm p m = record { basis = basis-perm G W p (m .basis); least = λ D d. omega (arith, total-perm ℓ p, m .least D d) }

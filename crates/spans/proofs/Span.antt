@@ -1,14 +1,15 @@
--- The span of a list, as a data type: v is in Span xs if v is the sum of a part of xs.
+-- The span of a list, as a data type: v is in Span xs if v is the sum of a part of xs. It is decidable.
 use mathlib.Core.Path.{_≡_, refl, sym, _∙_, ap, subst}
 use mathlib.Core.List.{List, [], _∷_, _++_}
 use Rattle.spans.specs.Group.{Space}
 use Rattle.spans.specs.Basis.{Part, All, Sum}
-use Rattle.spans.proofs.Xor.{right, into, past, both, undo, undo-left, zeros, into-past, undo-left′, head-sum}
-use Rattle.spans.proofs.Lists.{part-all, all-map, Perm}
+use Rattle.spans.proofs.Xor.{right, left-comm, right-comm, undo, undo-left, both, zeros}
+use Rattle.spans.proofs.Lists.{part-refl, part-all, all-map, Perm, Pick, perm-blocks}
 
 module _ {X : Type 0} (G : Space X) where
-  open Space G using (o, _⊕_, comm, assoc, self, left, dec)
+  open Space G using (o, _⊕_, comm, assoc, self, dec)
 
+  -- v is the sum of some members of the list: each is left out or taken.
   pub data Span : List X → X → Type 0 where
     none : {v : X} → v ≡ o → Span [] v
     skip : {x v : X} {xs : List X} → Span xs v → Span (x ∷ xs) v
@@ -29,13 +30,13 @@ module _ {X : Type 0} (G : Space X) where
   zero (x ∷ xs) = skip (zero xs)
 
   pub head : {x : X} {xs : List X} → Span (x ∷ xs) x
-  head {x} {xs} = take (at (sym (self x)) (zero xs))
+  head {x} {xs} = pick (zero xs) (sym (self x))
 
   pub add : {xs : List X} {v w : X} → Span xs v → Span xs w → Span xs (v ⊕ w)
   add (none p) (none q) = none (zeros G _ _ p q)
   add (skip s) (skip t) = skip (add s t)
-  add (skip s) (take t) = take (at (into G _ _ _) (add s t))
-  add (take s) (skip t) = take (at (past G _ _ _) (add s t))
+  add (skip s) (take t) = take (at (sym (assoc _ _ _)) (add s t))
+  add (take s) (skip t) = take (at (right-comm G _ _ _) (add s t))
   add (take s) (take t) = skip (at (both G _ _ _) (add s t))
 
   unfoldable pub dec-none : {v : X} → Dec (v ≡ o) → Dec (Span [] v)
@@ -83,18 +84,6 @@ module _ {X : Type 0} (G : Space X) where
   left-of ys (skip s) = skip (left-of ys s)
   left-of ys (take s) = take (left-of ys s)
 
-  -- A sum over two lists is a sum of two.
-  pub halves : (xs ys : List X) {v : X} → Span (xs ++ ys) v → (w : X) × Span xs w × Span ys (v ⊕ w)
-  halves [] ys s = (o, none refl, at (sym (right G _)) s)
-  halves (x ∷ xs) ys (skip s) = let (w, a, b) = halves xs ys s in (w, skip a, b)
-  halves (x ∷ xs) ys (take s) =
-      let (w, a, b) = halves xs ys s in
-      (w ⊕ x, take (at (sym (undo G w x)) a), at (into-past G _ _ _) b)
-
-  pub exchange : {x v : X} {xs : List X} → Span (x ∷ xs) v → ¬ Span xs v → Span (v ∷ xs) x
-  exchange (skip s) n = absurd (n s)
-  exchange (take s) n = take (at (comm _ _) s)
-
   pub span-perm : {xs ys : List X} {v : X} → Perm xs ys → Span xs v → Span ys v
   span-perm Perm.nil s = s
   span-perm (Perm.cons p) (skip s) = skip (span-perm p s)
@@ -102,21 +91,45 @@ module _ {X : Type 0} (G : Space X) where
   span-perm Perm.swap (skip (skip s)) = skip (skip s)
   span-perm Perm.swap (skip (take s)) = take (skip s)
   span-perm Perm.swap (take (skip s)) = skip (take s)
-  span-perm Perm.swap (take (take s)) = take (take (at (past G _ _ _) s))
+  span-perm Perm.swap (take (take s)) = take (take (at (right-comm G _ _ _) s))
   span-perm (Perm.trans p q) s = span-perm q (span-perm p s)
+
+  pub span-middle : (xs ys zs : List X) {v : X} → Span (xs ++ zs) v → Span (xs ++ (ys ++ zs)) v
+  span-middle xs ys zs s = span-perm (perm-blocks ys xs zs) (right-of ys s)
+
+  pub exchange : {x v : X} {xs : List X} → Span (x ∷ xs) v → ¬ Span xs v → Span (v ∷ xs) x
+  exchange (skip s) n = absurd (n s)
+  exchange (take s) n = take (at (comm _ _) s)
+
+  -- A sum over two lists is a sum of two.
+  pub halves : (xs ys : List X) {v : X} → Span (xs ++ ys) v → (w : X) × Span xs w × Span ys (v ⊕ w)
+  halves [] ys s = (o, none refl, at (sym (right G _)) s)
+  halves (x ∷ xs) ys (skip s) = let (w, a, b) = halves xs ys s in (w, skip a, b)
+  halves (x ∷ xs) ys (take {v = v} s) =
+      let (w, a, b) = halves xs ys s in
+      (w ⊕ x, take (at (sym (undo G w x)) a), at (assoc v x w ∙ ap (λ (u : X). v ⊕ u) (comm x w)) b)
 
   -- The span is the sums of the parts.
   pub to-part : {xs : List X} {v : X} → Span xs v → (ys : List X) × Part xs ys × (Sum G ys ≡ v)
   unfolding Sum
   to-part (none p) = ([], Part.nil, sym p)
   to-part (skip s) = let (ys, p, e) = to-part s in (ys, Part.skip p, e)
-  to-part (take {x = x} s) = let (ys, p, e) = to-part s in (x ∷ ys, Part.keep p, head-sum G _ _ _ e)
+  to-part (take {x = x} {v = v} s) =
+      let (ys, p, e) = to-part s in (x ∷ ys, Part.keep p, ap (λ (u : X). x ⊕ u) e ∙ comm x (v ⊕ x) ∙ undo G v x)
 
   pub from-part : {xs ys : List X} → Part xs ys → Span xs (Sum G ys)
   unfolding Sum
   from-part Part.nil = none refl
-  from-part (Part.keep p) = take (at (undo-left′ G _ _) (from-part p))
+  from-part (Part.keep p) = pick (from-part p) (sym (undo-left G _ _))
   from-part (Part.skip p) = skip (from-part p)
+
+  pub sum-in : (xs : List X) → Span xs (Sum G xs)
+  sum-in xs = from-part (part-refl xs)
+
+  pub pick-sum : {xs ys : List X} {c : X} → Pick xs c ys → Sum G xs ≡ c ⊕ Sum G ys
+  unfolding Sum
+  pick-sum Pick.here = refl
+  pick-sum (Pick.there {x = x} {c = c} {ys = ys} p) = ap (λ (u : X). x ⊕ u) (pick-sum p) ∙ left-comm G x c (Sum G ys)
 
   -- An element of the span of two lists, written over the first.
   pub record Expansion (xs ys : List X) (v : X) : Type 0 where
@@ -129,3 +142,18 @@ module _ {X : Type 0} (G : Space X) where
       let (w, a, b) = halves xs ys s in
       let (us, p, e) = to-part a in
       record { used = us; part = p; remains = at (ap (λ (u : X). v ⊕ u) (sym e)) b }
+
+  -- A member of xs that v uses, and what remains without it.
+  pub record Uses (xs ys : List X) (v : X) : Type 0 where
+    pub one : X
+    pub others : List X
+    pub pick : Pick xs one others
+    pub remains : Span (others ++ ys) (v ⊕ one)
+
+  -- An element of the span of two lists that the second does not span uses a member of the first.
+  pub uses : (xs ys : List X) (v : X) → Span (xs ++ ys) v → ¬ Span ys v → Uses xs ys v
+  uses [] ys v s n = absurd (n s)
+  uses (x ∷ xs) ys v (skip s) n =
+      let r = uses xs ys v s n in
+      record { one = r .one; others = x ∷ r .others; pick = Pick.there (r .pick); remains = skip (r .remains) }
+  uses (x ∷ xs) ys v (take s) n = record { one = x; others = xs; pick = Pick.here; remains = s }

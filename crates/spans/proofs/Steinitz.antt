@@ -1,19 +1,19 @@
--- Steinitz: an independent list in the span of ys is no longer than ys.
-use mathlib.Core.Path.{_≡_, refl, sym, _∙_, ap, subst}
+-- Steinitz: an independent list in the span of ys is no longer than ys. So two bases of one space are equally long.
+use mathlib.Core.Path.{_≡_, refl, sym, ap, subst}
 use mathlib.Core.List.{List, [], _∷_, _++_}
-use Prim.Native.Nat.{ℕ, suc, _+_, _≤_}
+use Prim.Native.Nat.{suc, _+_, _≤_}
 use native.Mathlib.Omega.{arith}
 use native.Mathlib.Nat.{le-antisymm}
-use lib.ListN.{length}
+use lib.ListN.{length, length-append}
 use Rattle.spans.specs.Group.{Space}
-use Rattle.spans.specs.Basis.{Part, All, Sum, Independent, Spans, Basis, Subgroup}
+use Rattle.spans.specs.Basis.{All, Spans, Basis, Subgroup}
 use Rattle.spans.proofs.Xor.{undo}
-use Rattle.spans.proofs.Lists.{part-all, all-map, all-append, Perm, perm-sym, perm-front}
-use Rattle.spans.proofs.Span.{Span, at, zero, head, add, span-dec, through, own, own-part, mono, left-of, right-of, span-perm, to-part, from-part}
+use Rattle.spans.proofs.Lists.{all-map, all-append, perm-sym, perm-front}
+use Rattle.spans.proofs.Span.{Span, at, head, span-dec, through, own, left-of, right-of, span-perm, to-part, from-part}
 use Rattle.spans.proofs.Indep.{Indep, by-recursion}
 
 module _ {X : Type 0} (G : Space X) where
-  open Space G using (o, _⊕_, comm, assoc, self, left, dec)
+  open Space G using (_⊕_, comm)
 
   -- One element of zs leaves as x comes in.
   record Out (zs xs : List X) (x : X) : Type 0 where
@@ -54,6 +54,21 @@ module _ {X : Type 0} (G : Space X) where
   pub steinitz : {xs ys : List X} → Indep G xs → All (Span G ys) xs → length xs ≤ length ys
   steinitz i a = let t = stand-in i a in omega (arith, t .count)
 
+  -- Modulo zs.
+  pub steinitz-over : (xs ys zs : List X) → Indep G (xs ++ zs) → All (Span G (ys ++ zs)) xs → length xs ≤ length ys
+  steinitz-over xs ys zs i a =
+      let h = steinitz i (all-append a (all-map (λ v s. right-of G ys s) (own G zs))) in
+      omega (arith, length-append xs zs, length-append ys zs)
+
+  -- An independent list inside the span of ys and as long as ys spans all that ys spans.
+  pub fills : {xs ys : List X} {v : X} → Indep G xs → All (Span G ys) xs → length xs ≡ length ys → Span G ys v → Span G xs v
+  fills {xs} {ys} {v} i a e s = by-cases (span-dec G xs v)
+    where
+      by-cases : Dec (Span G xs v) → Span G xs v
+      by-cases (yes t) = t
+      by-cases (no n) = absurd (let h = steinitz (Indep.more n i) (All.cons s a) in omega arith)
+
+  -- The reader's spanning, both ways.
   pub spanned : {W : X → Type 0} {B : List X} → Spans G W B → (s : X) → W s → Span G B s
   spanned {B} h s w = let (ys, p, e) = h .part s w in at G e (from-part G p)
 

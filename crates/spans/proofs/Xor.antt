@@ -1,9 +1,9 @@
 -- Laws of a group in which each element is its own inverse.
-use mathlib.Core.Path.{_≡_, refl, sym, _∙_, ap}
+use mathlib.Core.Path.{_≡_, sym, _∙_, ap}
 use Rattle.spans.specs.Group.{Space}
 
 module _ {X : Type 0} (G : Space X) where
-  open Space G using (o, _⊕_, comm, assoc, self, left, dec)
+  open Space G using (o, _⊕_, comm, assoc, self, left)
 
   pub right : (x : X) → x ⊕ o ≡ x
   right x = comm x o ∙ left x
@@ -14,6 +14,7 @@ module _ {X : Type 0} (G : Space X) where
   pub cancel : (x y : X) → x ⊕ (x ⊕ y) ≡ y
   cancel x y = sym (assoc x x y) ∙ ap (λ (w : X). w ⊕ y) (self x) ∙ left y
 
+  -- The laws of `Space` as lemmas: a rule set names no fields.
   pub comm′ : (x y : X) → x ⊕ y ≡ y ⊕ x
   comm′ = comm
 
@@ -26,37 +27,26 @@ module _ {X : Type 0} (G : Space X) where
   pub left′ : (x : X) → o ⊕ x ≡ x
   left′ = left
 
+  -- Decides equations between sums: `simp (xor, G)`.
   pub ruleset xor = (comm′, assoc′, left-comm, self′, left′, right, cancel)
 
-  pub into : (v w x : X) → v ⊕ (w ⊕ x) ≡ (v ⊕ w) ⊕ x
-  into v w x = sym (assoc v w x)
-
-  pub past : (v x w : X) → (v ⊕ x) ⊕ w ≡ (v ⊕ w) ⊕ x
-  past v x w = simp xor
-
-  pub both : (v w x : X) → (v ⊕ x) ⊕ (w ⊕ x) ≡ v ⊕ w
-  both v w x = simp xor
+  pub right-comm : (v x w : X) → (v ⊕ x) ⊕ w ≡ (v ⊕ w) ⊕ x
+  right-comm v x w = simp xor
 
   pub undo : (v x : X) → (v ⊕ x) ⊕ x ≡ v
   undo v x = simp xor
 
-  pub undo-left : (x v : X) → v ≡ (x ⊕ v) ⊕ x
+  pub undo-left : (x v : X) → (x ⊕ v) ⊕ x ≡ v
   undo-left x v = simp xor
+
+  pub both : (v w x : X) → (v ⊕ x) ⊕ (w ⊕ x) ≡ v ⊕ w
+  both v w x = simp xor
+
+  pub both-left : (x v w : X) → (x ⊕ v) ⊕ (x ⊕ w) ≡ v ⊕ w
+  both-left x v w = simp xor
 
   pub zeros : (v w : X) → v ≡ o → w ≡ o → v ⊕ w ≡ o
   zeros v w p q = rw (p, q) (left o)
 
-  pub same : (v w : X) → v ⊕ w ≡ o → v ≡ w
-  same v w e = sym (undo v w) ∙ ap (λ (u : X). u ⊕ w) e ∙ left w
-
   pub differ : (v w : X) → v ≡ w → v ⊕ w ≡ o
   differ v w e = ap (λ (u : X). u ⊕ w) e ∙ self w
-
-  pub into-past : (v x w : X) → (v ⊕ x) ⊕ w ≡ v ⊕ (w ⊕ x)
-  into-past v x w = simp xor
-
-  pub undo-left′ : (x v : X) → v ≡ (x ⊕ v) ⊕ x
-  undo-left′ x v = undo-left x v
-
-  pub head-sum : (x v s : X) → s ≡ v ⊕ x → x ⊕ s ≡ v
-  head-sum x v s e = rw e (simp xor)

@@ -7,7 +7,6 @@ pub data _∈_ {X : Type 0} (x : X) : List X → Type 0 where
   later : {y : X} {xs : List X} → x ∈ xs → x ∈ (y ∷ xs)
 
 infix 40 _∈_
-
 -- No element stands in the list twice.
 pub data Once {X : Type 0} : List X → Type 0 where
   none : Once []

@@ -7,45 +7,34 @@ use Rattle.bondset.proofs.Laws.{field-word-lo, shr-word-hi}
 use borrow.Author.Needs.{needs}
 use Rattle.bondset.proofs.byte.Statement.{statement}
 use Rattle.bondset.proofs.byte.Tie as tie
-use Rattle.bondset.proofs.byte.Reads as reads
-use Rattle.bondset.proofs.byte.Lts as lts
 
--- src/lib.rt:135:27
 mul-result : tie.Need-mul-result
 mul-result c = search needs
 
--- src/lib.rt:135:18
 shr-result : tie.Need-shr-result
 shr-result c = search needs
 
--- src/lib.rt:135:16
 cast-result : tie.Need-cast-result
 cast-result c = record { fits = mask-lt (c .before .before .args .a .lo / 2 ^ (8 * c .before .before .args .j)) 8 }
 
--- src/lib.rt:135:9
 returns : tie.Need-returns
 returns c =
     let a = c .before .before .args .a in
     let k = 8 * c .before .before .args .j in
     and-mask (a .lo / 2 ^ k) 8 ∙ sym (field-word-lo 64 (a .hi) (a .lo) (omega arith) 8 k (omega arith))
 
--- src/lib.rt:137:16
 mul-result-2 : tie.Need-mul-result-2
 mul-result-2 c = search needs
 
--- src/lib.rt:137:16
 sub-result : tie.Need-sub-result
 sub-result c = search needs
 
--- src/lib.rt:137:7
 shr-result-2 : tie.Need-shr-result-2
 shr-result-2 c = search needs
 
--- src/lib.rt:137:5
 cast-result-2 : tie.Need-cast-result-2
 cast-result-2 c = record { fits = mask-lt (c .before .before .args .a .hi / 2 ^ (8 * c .before .before .args .j - 64)) 8 }
 
--- src/lib.rt:130:1
 returns-2 : tie.Need-returns-2
 returns-2 c =
     let a = c .before .before .args .a in

@@ -5,19 +5,13 @@ use Rattle.bondset.proofs.Bytes.{ofFirst-split}
 use borrow.Author.Needs.{needs}
 use Rattle.bondset.proofs.from_bytes.Statement.{statement}
 use Rattle.bondset.proofs.from_bytes.Tie as tie
-use Rattle.bondset.proofs.from_bytes.Reads as reads
-use Rattle.bondset.proofs.from_bytes.Lts as lts
-use Rattle.bondset.proofs.word.Reads as word-reads
 
--- src/lib.rt:181:13
 word-requires : tie.Need-word-requires
 word-requires c κs = search needs
 
--- src/lib.rt:182:13
 word-requires-2 : tie.Need-word-requires-2
 word-requires-2 c κs = search needs
 
--- src/lib.rt:177:1
 returns : tie.Need-returns
 returns c =
     let bs = c .before .before .before .args .bytes .now in

@@ -4,10 +4,7 @@ use mathlib.Core.Path.{sym}
 use native.Mathlib.Omega.{arith}
 use Rattle.bondset.proofs.intersection.Statement.{statement}
 use Rattle.bondset.proofs.intersection.Tie as tie
-use Rattle.bondset.proofs.intersection.Reads as reads
-use Rattle.bondset.proofs.intersection.Lts as lts
 
--- src/lib.rt:61:1
 returns : tie.Need-returns
 returns c =
     let a = c .before .before .before .before .args .a in

@@ -1,22 +1,18 @@
+-- The ones of two words are those of their number.
 use native.Mathlib.Nat.{add-comm}
-use Rattle.bondset.proofs.Laws.{words-lt}
-use Rattle.bondset.proofs.Laws.{length-ones}
+use Rattle.bondset.proofs.Laws.{words-lt, length-ones}
 use lib.Count.{ones, ones-le, ones-cat}
-use Prim.Native.Nat.{ℕ, _+_, _-_, _*_, _/_, _%_, _^_, _≤_, _<_}
-use mathlib.Core.Path.{_≡_, refl, sym, ap, ap₂, _∙_}
+use Prim.Native.Nat.{_+_, _*_, _^_, _<_}
+use mathlib.Core.Path.{sym, _∙_}
 use native.Mathlib.Omega.{arith}
 use Rattle.bondset.proofs.length.Statement.{statement}
 use Rattle.bondset.proofs.length.Tie as tie
-use Rattle.bondset.proofs.length.Reads as reads
-use Rattle.bondset.proofs.length.Lts as lts
 
--- src/lib.rt:49:5
 add-result : tie.Need-add-result
 add-result c =
     let a = c .before .before .args .a in
     omega (arith, ones-le 64 (a .lo) (omega arith), ones-le 64 (a .hi) (omega arith))
 
--- src/lib.rt:46:1
 returns : tie.Need-returns
 returns c =
     let a = c .before .before .args .a in

@@ -1,5 +1,5 @@
 -- The loop's invariant: the bytes written so far are the set's, and the rest stands as lent.
-use Prim.Native.Nat.{ℕ, _+_, _-_, _≤_, min}
+use Prim.Native.Nat.{_-_, _≤_, min}
 use mathlib.Core.Logic.{⊎-elim}
 use mathlib.Core.Path.{_≡_, refl, ap, _∙_}
 use native.Mathlib.Omega.{arith}
@@ -11,9 +11,6 @@ use Rattle.bondset.specs.Bytes.{bytesOf}
 use Rattle.bondset.proofs.Bytes.{write-byte}
 use Rattle.bondset.proofs.to_bytes.Statement.{statement}
 use Rattle.bondset.proofs.to_bytes.Tie as tie
-use Rattle.bondset.proofs.to_bytes.Reads as reads
-use Rattle.bondset.proofs.to_bytes.Lts as lts
-use Rattle.bondset.proofs.byte.Reads as byte-reads
 
 abbrev Inv-loop : tie.InvT-loop
 Inv-loop a out₀ n j₀ out j =
@@ -22,30 +19,24 @@ Inv-loop a out₀ n j₀ out j =
 abbrev μ-loop : tie.MeasureT-loop
 μ-loop a out₀ n j₀ out j = n - j
 
--- src/lib.rt:148:5
 loop-holds : tie.Need-loop-holds Inv-loop μ-loop
 loop-holds c =
     let a = c .before .before .args in
     let e : c .if1 .n ≡ min 12 (length (a .out .now)) = ⊎-elim (λ l. omega (arith, l .1, l .0 .taken)) (λ r. omega (arith, r .1, r .0 .left)) (c .if1 .came) in
     (omega arith, e, refl, paste-zero (a .out .now) 0 (bytesOf 12 (value (a .a))))
 
--- src/lib.rt:149:18
 byte-requires : tie.Need-byte-requires Inv-loop μ-loop
 byte-requires c κs = search needs
 
--- src/lib.rt:149:9
 slice-write-out : tie.Need-slice-write-out Inv-loop μ-loop
 slice-write-out c = search needs
 
--- src/lib.rt:148:9
 add-j : tie.Need-add-j Inv-loop μ-loop
 add-j c = search needs
 
--- src/lib.rt:148:5
 loop-less : tie.Need-loop-less Inv-loop μ-loop
 loop-less c = search needs
 
--- src/lib.rt:148:5
 loop-again : tie.Need-loop-again Inv-loop μ-loop
 loop-again c =
     let l = c .before .before .loop in
@@ -56,11 +47,9 @@ loop-again c =
       write-byte (a .out .now) (l .out) (value (a .a)) (l .j) (c .byte .result) (l .inv .3) (omega arith) (omega arith) (c .byte .ensures),
     )
 
--- src/lib.rt:141:1
 same-length : tie.Need-same-length Inv-loop μ-loop
 same-length c = search needs
 
--- src/lib.rt:141:1
 returns : tie.Need-returns Inv-loop μ-loop
 returns c =
     let l = c .before .loop in

@@ -1,5 +1,5 @@
 -- The loop's invariant: the word is that of the bytes read, and fits them.
-use Prim.Native.Nat.{ℕ, _+_, _-_, _*_, _%_, _^_, _≤_, _<_}
+use Prim.Native.Nat.{ℕ, _+_, _-_, _*_, _^_, _≤_, _<_}
 use mathlib.Core.Path.{_≡_, refl, sym, ap, _∙_, subst}
 use native.Mathlib.Nat.{lt-of-lt-of-le}
 use native.Mathlib.Omega.{arith}
@@ -10,9 +10,6 @@ use Rattle.bondset.specs.Bytes.{ofFirst}
 use Rattle.bondset.proofs.Bytes.{word-more, word-lt}
 use Rattle.bondset.proofs.word.Statement.{statement}
 use Rattle.bondset.proofs.word.Tie as tie
-use Rattle.bondset.proofs.word.Reads as reads
-use Rattle.bondset.proofs.word.Lts as lts
-use Rattle.bondset.proofs.byte_at.Reads as byte-at-reads
 
 abbrev Inv-loop : tie.InvT-loop
 Inv-loop bytes from count w₀ j₀ w j = (j ≤ count) × (w ≡ ofFirst j (drop from bytes)) × (w < 2 ^ (8 * j))
@@ -20,49 +17,40 @@ Inv-loop bytes from count w₀ j₀ w j = (j ≤ count) × (w ≡ ofFirst j (dro
 abbrev μ-loop : tie.MeasureT-loop
 μ-loop bytes from count w₀ j₀ w j = count - j
 
--- src/lib.rt:170:5
 loop-holds : tie.Need-loop-holds Inv-loop μ-loop
 unfolding ofFirst
 loop-holds c = (omega arith, refl, omega arith)
 
--- src/lib.rt:171:30
 add-byte-at : tie.Need-add-byte-at Inv-loop μ-loop
 add-byte-at c = search needs
 
--- src/lib.rt:171:15
 byte-at-requires : tie.Need-byte-at-requires Inv-loop μ-loop
 byte-at-requires c κs = search needs
 
--- src/lib.rt:171:15
 cast-w : tie.Need-cast-w Inv-loop μ-loop
 cast-w c = search needs
 
--- src/lib.rt:171:52
 mul-w : tie.Need-mul-w Inv-loop μ-loop
 mul-w c = search needs
 
--- src/lib.rt:171:14
 shl-w : tie.Need-shl-w Inv-loop μ-loop
 shl-w c = search needs
 
--- src/lib.rt:171:9
 add-w : tie.Need-add-w Inv-loop μ-loop
 add-w c =
     let l = c .before .before .loop in
     let b = c .byte-at .result in
     let h : b < 256 = omega arith in
     let e = shl-exact 8 (8 * l .j) 64 h (omega arith) in
-    record { fits = subst (λ (x : ℕ). l .w + x < 2 ^ 64) (sym e) (lt-of-lt-of-le (word-lt (l .j) (l .w) b (l .inv .2) h) (pow-mono {i = 8 * (l .j + 1)} {j = 64} (omega arith))) }
+    let small = lt-of-lt-of-le (word-lt (l .j) (l .w) b (l .inv .2) h) (pow-mono {i = 8 * (l .j + 1)} {j = 64} (omega arith)) in
+    record { fits = subst (λ (x : ℕ). l .w + x < 2 ^ 64) (sym e) small }
 
--- src/lib.rt:170:9
 add-j : tie.Need-add-j Inv-loop μ-loop
 add-j c = search needs
 
--- src/lib.rt:170:5
 loop-less : tie.Need-loop-less Inv-loop μ-loop
 loop-less c = search needs
 
--- src/lib.rt:170:5
 loop-again : tie.Need-loop-again Inv-loop μ-loop
 loop-again c =
     let l = c .before .before .loop in
@@ -75,7 +63,6 @@ loop-again c =
       subst (λ (x : ℕ). l .w + x < 2 ^ (8 * (l .j + 1))) (sym e) (word-lt (l .j) (l .w) b (l .inv .2) h),
     )
 
--- src/lib.rt:164:1
 returns : tie.Need-returns Inv-loop μ-loop
 returns c =
     let a = c .before .before .before .args in

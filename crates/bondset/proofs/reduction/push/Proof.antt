@@ -37,7 +37,9 @@ lowest-requires c κs = search needs
 
 -- src/reduction.rt:66:21
 cast-pivots : tie.Need-cast-pivots
-cast-pivots c = omega (arith, c .lowest .ensures, trailing-le 128 (value (c .before .before .before .before .before .before .before .before .before .before .before .before .before .before .args .v .rest)))
+cast-pivots c =
+    let a = c .before .before .before .before .before .before .before .before .before .before .before .before .before .before .args in
+    omega (arith, c .lowest .ensures, trailing-le 128 (value (a .v .rest)))
 
 -- src/reduction.rt:66:5
 slice-write-pivots : tie.Need-slice-write-pivots
@@ -63,7 +65,9 @@ returns c =
     let t = c .before .before .before in
     record {
       rowStored = t .before .before .before .before .before .before .put-row .ensures;
-      tagStored = t .put-row2 .ensures ∙ ap (putRow (a .tags .now) (a .count)) (t .before .sum .ensures ∙ ap (bitXor (value (a .v .used))) (t .before .before .single .ensures));
+      tagStored =
+          t .put-row2 .ensures
+          ∙ ap (putRow (a .tags .now) (a .count)) (t .before .sum .ensures ∙ ap (bitXor (value (a .v .used))) (t .before .before .single .ensures));
       pivotStored = ap (set (a .pivots .now) (a .count)) (c .lowest .ensures);
     }
 

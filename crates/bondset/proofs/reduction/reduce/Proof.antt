@@ -1,12 +1,12 @@
-use mathlib.Core.Path.{_≡_, sym, ap, _∙_}
+use mathlib.Core.Path.{sym, ap, _∙_}
 use mathlib.Core.Logic.{inl, inr}
-use Prim.Native.Nat.{_-_, _≤_}
+use Prim.Native.Nat.{_-_, _≤_, max}
 use native.Mathlib.Omega.{arith}
 use lib.Bits.{bitXor}
 use borrow.Author.Needs.{needs}
 use Rattle.bondset.specs.Sets.{value}
 use Rattle.bondset.specs.Reduction.{used, Reduces}
-use Rattle.bondset.proofs.ReductionModel.{reduces-none, reduces-taken, reduces-left}
+use Rattle.bondset.proofs.ReductionModel.{reduces-none, reduces-end, reduces-taken, reduces-left}
 use Rattle.bondset.proofs.reduction.reduce.Statement.{statement}
 use Rattle.bondset.proofs.reduction.reduce.Tie as tie
 use Rattle.bondset.proofs.reduction.reduce.Reads as reads
@@ -17,7 +17,7 @@ use Rattle.bondset.proofs.sum.Reads as sum-reads
 
 abbrev Inv-loop : tie.InvT-loop
 Inv-loop rows tags pivots from to rest₀ used₀ i₀ rest used i =
-    (from ≤ i) × (i ≤ to) × Reduces rows tags pivots from i (value rest₀) (value used₀) (value rest) (value used)
+    (from ≤ i) × (i ≤ max from to) × Reduces rows tags pivots from i (value rest₀) (value used₀) (value rest) (value used)
 
 abbrev μ-loop : tie.MeasureT-loop
 μ-loop rows tags pivots from to rest₀ used₀ i₀ rest used i = to - i
@@ -91,8 +91,9 @@ loop-again c =
 returns : tie.Need-returns Inv-loop μ-loop
 returns c =
     let a = c .before .before .before .before .before .before .before .args in
-    let e : c .before .loop .i ≡ a .to = omega arith in
-    rw e at (c .before .loop .inv .2)
+    let b = c .before .loop in
+    reduces-end (a .rows .now) (a .tags .now) (a .pivots .now) (a .from) (value (a .v .rest)) (value (a .v .used)) (b .i) (a .to)
+    (value (b .rest)) (value (b .used)) (omega arith) (b .inv .2)
 
 pub reduce-spec : {M : Type 1} → statement M
 reduce-spec =
