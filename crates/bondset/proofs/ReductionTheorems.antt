@@ -14,14 +14,14 @@ use lib.Pow.{pow-pos, pow-mono, pow-lt, shr-shr}
 use Rattle.spans.specs.Basis.{All, Sum, Subgroup}
 use Rattle.spans.proofs.Indep.{Indep, indep-perm}
 use Rattle.spans.proofs.Lists.{all-append, perm-comm}
-use Rattle.spans.proofs.Span.{Span, at, Expansion}
+use Rattle.spans.proofs.Span.{Span, at}
 use Rattle.spans.proofs.Steinitz.{span-inside}
 use Rattle.bondset.specs.Sets.{bit}
 use Rattle.bondset.specs.Reduction.{rowAt, putRow, reduced, used, pushedTag, pivotOf, Room, combine, namedBy, Reduction}
 use Rattle.bondset.proofs.Laws.{cases2, bit-lt, bit-xor, bit-pow-same, bit-beyond, single-below, zero-bit, lt-or-ge, pos-of-ne, trailing}
 use Rattle.bondset.proofs.Group.{bondSets}
 use Rattle.bondset.proofs.ReductionTags.{xor-swap, xor-cancel, scale-xor, combine-zero, combine-xor, combine-scale, combine-single, combine-take, combine-lt}
-use Rattle.bondset.proofs.ReductionTags.{combine-last, combine-split, combine-shifted, combine-span-take, digit-lt, namedBy-all, namedBy-part, namedBy-sum}
+use Rattle.bondset.proofs.ReductionTags.{combine-last, combine-split, combine-shifted, combine-span-take, digit-lt, namedBy-all, namedBy-sum}
 use Rattle.bondset.proofs.ReductionModel.{reduced-none, reduced-more, used-none, used-more, length-putRow, row-same, row-other}
 
 -- ---- one row
@@ -445,15 +445,10 @@ pub sum-short : (short : ℕ) (chosen : List ℕ) (t : ℕ)
     → Sum bondSets (namedBy (drop short chosen) (t / 2 ^ short)) ≡ combine chosen (t / 2 ^ short * 2 ^ short)
 sum-short short chosen t = namedBy-sum (drop short chosen) (t / 2 ^ short) ∙ sym (combine-shifted short (t / 2 ^ short) chosen)
 
--- the same as an expansion over the chosen sets from the short-th on, modulo those before
-pub expansion-short : (short : ℕ) (chosen : List ℕ) (t v : ℕ) → v ≡ combine chosen t → Expansion bondSets (drop short chosen) (take short chosen) v
-unfolding bondSets
-expansion-short short chosen t v e =
-    record {
-      used = namedBy (drop short chosen) (t / 2 ^ short);
-      part = namedBy-part (drop short chosen) (t / 2 ^ short);
-      remains = at bondSets (ap (bitXor v) (sym (sum-short short chosen t))) (span-short short chosen t v e);
-    }
+-- the same with the sets listed: an expansion over the chosen sets from the short-th on, modulo those before
+pub remains-short : (short : ℕ) (chosen : List ℕ) (t v : ℕ) → v ≡ combine chosen t
+    → Span bondSets (take short chosen) (bitXor v (Sum bondSets (namedBy (drop short chosen) (t / 2 ^ short))))
+remains-short short chosen t v e = at bondSets (ap (bitXor v) (sym (sum-short short chosen t))) (span-short short chosen t v e)
 
 -- what holds of the chosen sets from the short-th on that a tag names holds of the list that it names
 pub named-short-all : {P : ℕ → Type 0} (short : ℕ) (chosen : List ℕ) (t : ℕ)
