@@ -290,7 +290,8 @@ module _ (c : Compound) (sound : Sound c) (rank : ℕ → ℕ) where
       → (d ≡ e) × (link ≡ link′)
   candidate-unique s t = shape-unique (candidate-shape s) (candidate-shape t)
 
-  made-at : {f : Family} {d e : ℕ} {link link′ P Q : List ℕ} {S : ℕ} → Made f d link P Q S → Candidate c rank f e link′ → Made f e link′ P Q S
+  -- A candidate has one distance and one link.
+  pub made-at : {f : Family} {d e : ℕ} {link link′ P Q : List ℕ} {S : ℕ} → Made f d link P Q S → Candidate c rank f e link′ → Made f e link′ P Q S
   made-at {f} {d} {link′} {P} {Q} {S} s t =
       let same = candidate-unique (s .candidate) t in
       subst (λ (n : ℕ). Made f n link′ P Q S) (same .0) (subst (λ (l : List ℕ). Made f d l P Q S) (same .1) s)

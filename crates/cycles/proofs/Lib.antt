@@ -1,3 +1,4 @@
+-- The mathematics, from the bridge to graphs up to what is promised of a right report.
 pub mod Carry
 pub mod Shorter
 pub mod Edges
@@ -6,5 +7,14 @@ pub mod PathsDecide
 pub mod PathsWays
 pub mod PathsDown
 pub mod Families
+pub mod MembersLists
+pub mod MembersBonds
+pub mod MembersApart
+pub mod MembersCorners
+pub mod MembersAround
+pub mod Members
 pub mod Dimension
 pub mod Few
+pub mod Bases
+pub mod Swaps
+pub mod Ranks

@@ -53,14 +53,14 @@ module _ (c : Compound) where
       go [] e s = e
       go (a ∷ path) e s = absurd (omega arith)
 
-  way-len : {u v n S : ℕ} → Way u v n S → len c S ≤ n
+  pub way-len : {u v n S : ℕ} → Way u v n S → len c S ≤ n
   way-len way = omega (arith, edges-length c (way .edges))
 
   way-bonds : {u v n S : ℕ} → Way u v n S → S < 2 ^ m c
   way-bonds way = edges-bonds c (way .edges)
 
   module _ (sound : Sound c) where
-    way-parity : {u v n S : ℕ} → Way u v n S → (a : ℕ) → degree c S a % 2 ≡ (is u a + is v a) % 2
+    pub way-parity : {u v n S : ℕ} → Way u v n S → (a : ℕ) → degree c S a % 2 ≡ (is u a + is v a) % 2
     way-parity way a = rw (way .ends) at (edges-parity c sound (way .edges) a)
 
     pub two-ways-closed : {u v i j S T : ℕ} → Way u v i S → Way u v j T → Closed c (bitXor S T)

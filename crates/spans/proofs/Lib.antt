@@ -17,3 +17,4 @@ pub mod Short
 pub mod Marking
 pub mod Replace
 pub mod Kernel
+pub mod Exists
