@@ -11,7 +11,7 @@ use lib.Count.{trailingZeros, under}
 use lib.ListN.{length, length-append}
 use lib.Pow.{shr-lt}
 use Rattle.spans.specs.Elements.{_∈_, first, later}
-use Rattle.bondset.specs.Sets.{bit, lengthTo, ifSet, members, Ascending, none, next, Lowest}
+use Rattle.bondset.specs.Sets.{bit, lengthTo, ifSet, members, Climbs, none, next, Lowest}
 use Rattle.bondset.proofs.Laws.{cases2, lt-or-ge, bit-lt, bit-xor, bit-pow-same, bit-pow-other, zero-bit, trailing, lowest}
 
 -- ---- how many there are
@@ -74,18 +74,18 @@ bit-of-mem (suc n) s k m =
 pub mem-members : (n s k : ℕ) → (k ∈ members n s) ↔ ((k < n) × (bit s k ≡ 1))
 mem-members n s k = (λ m. (lt-of-mem n s k m, bit-of-mem n s k m), λ p. mem-of-bit n s k (p .0) (p .1))
 
-ascending-append : {xs : List ℕ} (k : ℕ) → Ascending xs → ((x : ℕ) → x ∈ xs → x < k) → Ascending (xs ++ (k ∷ []))
+ascending-append : {xs : List ℕ} (k : ℕ) → Climbs xs → ((x : ℕ) → x ∈ xs → x < k) → Climbs (xs ++ (k ∷ []))
 ascending-append k none h = next {x = k} {xs = []} (λ y. elim [ ]) none
 ascending-append k (next {x} {xs} lt a) h =
     next (λ y m. ⊎-elim (λ (l : y ∈ xs). lt y l) (λ (l : y ∈ ifSet 1 k). omega (arith, ∈-ifSet-eq 1 l, h x first)) (∈-cases xs (k ∷ []) m))
     (ascending-append k a (λ y m. h y (later m)))
 
-pub members-ascending : (n s : ℕ) → Ascending (members n s)
+pub members-climb : (n s : ℕ) → Climbs (members n s)
 unfolding members
-members-ascending zero s = none
-members-ascending (suc n) s = go (bit s n) (members-ascending n s)
+members-climb zero s = none
+members-climb (suc n) s = go (bit s n) (members-climb n s)
   where
-    go : (b : ℕ) → Ascending (members n s) → Ascending (members n s ++ ifSet b n)
+    go : (b : ℕ) → Climbs (members n s) → Climbs (members n s ++ ifSet b n)
     go zero a = rw append-nil a
     go (suc b) a = ascending-append n a (lt-of-mem n s)
 

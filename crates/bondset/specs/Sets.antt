@@ -41,9 +41,9 @@ members zero s = []
 members (suc n) s = members n s ++ ifSet (bit s n) n
 
 -- each number of the list is below all that follow it
-pub data Ascending : List ℕ → Type 0 where
-  none : Ascending []
-  next : {x : ℕ} {xs : List ℕ} → ((y : ℕ) → y ∈ xs → x < y) → Ascending xs → Ascending (x ∷ xs)
+pub data Climbs : List ℕ → Type 0 where
+  none : Climbs []
+  next : {x : ℕ} {xs : List ℕ} → ((y : ℕ) → y ∈ xs → x < y) → Climbs xs → Climbs (x ∷ xs)
 
 -- k is the lowest bond of s
 pub record Lowest (s k : ℕ) : Type 0 where

@@ -41,20 +41,20 @@ module _ {X : Type 0} where
       let back = once-length-le t (λ a. same a .1) in
       omega arith
 
-  in-left : {a : X} {xs : List X} (ys : List X) → a ∈ xs → a ∈ (xs ++ ys)
+  pub in-left : {a : X} {xs : List X} (ys : List X) → a ∈ xs → a ∈ (xs ++ ys)
   in-left ys _∈_.first = _∈_.first
   in-left ys (_∈_.later h) = _∈_.later (in-left ys h)
 
-  in-right : {a : X} (xs : List X) {ys : List X} → a ∈ ys → a ∈ (xs ++ ys)
+  pub in-right : {a : X} (xs : List X) {ys : List X} → a ∈ ys → a ∈ (xs ++ ys)
   in-right [] h = h
   in-right (x ∷ xs) h = _∈_.later (in-right xs h)
 
-  in-append : {a : X} (xs ys : List X) → a ∈ (xs ++ ys) → (a ∈ xs) ⊎ (a ∈ ys)
+  pub in-append : {a : X} (xs ys : List X) → a ∈ (xs ++ ys) → (a ∈ xs) ⊎ (a ∈ ys)
   in-append [] ys h = inr h
   in-append (x ∷ xs) ys _∈_.first = inl _∈_.first
   in-append (x ∷ xs) ys (_∈_.later h) = ⊎-elim (λ l. inl (_∈_.later l)) inr (in-append xs ys h)
 
-  once-append : {xs ys : List X} → Once xs → Once ys → ((a : X) → a ∈ xs → a ∈ ys → ⊥) → Once (xs ++ ys)
+  pub once-append : {xs ys : List X} → Once xs → Once ys → ((a : X) → a ∈ xs → a ∈ ys → ⊥) → Once (xs ++ ys)
   once-append Once.none t apart = t
   once-append {ys} (Once.more {x = x} {xs = xs} fresh s) t apart =
       Once.more (λ h. ⊎-elim fresh (apart x _∈_.first) (in-append xs ys h)) (once-append s t (λ a h. apart a (_∈_.later h)))
