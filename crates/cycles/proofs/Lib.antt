@@ -14,6 +14,7 @@ pub mod MembersCorners
 pub mod MembersAround
 pub mod Members
 pub mod Dimension
+pub mod Exists
 pub mod Few
 pub mod Bases
 pub mod Swaps
