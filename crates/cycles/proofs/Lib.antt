@@ -19,3 +19,4 @@ pub mod Few
 pub mod Bases
 pub mod Swaps
 pub mod Ranks
+pub mod Unique
