@@ -7,35 +7,29 @@ use native.Mathlib.Omega.{arith}
 use lib.Bits.{bitXor}
 use lib.ListN.{length}
 use Rattle.spans.specs.Elements.{_∈_}
-use Rattle.spans.specs.Basis.{Part, All, Sum, Independent, Subgroup}
+use Rattle.spans.specs.Basis.{Part, All, Sum, Independent}
 use Rattle.spans.specs.Graded.{total, below}
 use Rattle.spans.proofs.Lists.{all-map}
 use Rattle.spans.proofs.Span.{Span, at, span-dec, to-part, from-part}
 use Rattle.spans.proofs.Indep.{Indep}
-use Rattle.spans.proofs.Steinitz.{spanned, span-inside}
 use Rattle.spans.proofs.Short as Short
 use Rattle.spans.proofs.Short.{Short, SpansShort, relevant-not-span, not-span-relevant, minimum-spans-short}
 use Rattle.spans.proofs.Short.{relevant-in-minimum, in-minimum-relevant, minimum-relevant}
 use Rattle.spans.proofs.Marking.{Marking, Rising, Complete, marking-minimum, full-stops}
-use Rattle.spans.proofs.Exists as Exists
 use Rattle.bondset.proofs.Group.{bondSets}
 use Rattle.cycles.specs.Compound.{Compound, Sound, OnePiece, cyclomatic}
 use Rattle.cycles.specs.Ring.{len, Closed, Ring, Relevant}
 use Rattle.cycles.specs.Basis.{Basis, Minimum}
 use Rattle.cycles.specs.Family.{Family, Prototype, Member, Kept}
 use Rattle.cycles.specs.Rows.{Row, Report, Right, Ascending, Less, Marks, SumOf}
-use Rattle.cycles.proofs.Shorter.{Shorter, shorter-zero, shorter-add, closed-zero, closed-sum, closed-shorter, ring-or-shorter}
+use Rattle.cycles.proofs.Shorter.{Shorter, shorter-zero, shorter-add, closed-shorter, ring-or-shorter}
 use Rattle.cycles.proofs.Shorter.{relevant-not-shorter, not-shorter-relevant}
 use Rattle.cycles.proofs.Families.{prototype-member, prototype-unique, member-differ-shorter}
 use Rattle.cycles.proofs.Members.{relevant-in-family}
 use Rattle.cycles.proofs.Dimension.{closed-basis, dimension-one-piece}
+use Rattle.cycles.proofs.Exists.{closed-dec, minimum-exists}
 
 module _ (c : Compound) where
-  -- The empty set is closed, and so is the sum of two closed sets.
-  pub closed-subgroup : Subgroup bondSets (Closed c)
-  unfolding bondSets
-  closed-subgroup = record { zero = closed-zero c; add = λ x y a b. closed-sum c a b }
-
   -- A sum of rings shorter than k is a sum of closed sets shorter than k.
   pub shorter-short : {k S : ℕ} → Shorter c k S → Short bondSets (len c) (Closed c) k S
   shorter-short s = record { parts = s .rings; short = all-map (λ R p. (p .0 .closed, p .1)) (s .short); sum = s .sum }
@@ -62,13 +56,9 @@ module _ (c : Compound) (sound : Sound c) where
       go (inl ring) = not-shorter-relevant c ring (λ s. r .alone (shorter-short c s))
       go (inr s) = absurd (r .alone (shorter-short c s))
 
-  -- Every compound has a minimum basis.
-  pub minimum-exists : (B : List ℕ) × Minimum c B
-  minimum-exists = let (B, b) = closed-basis c sound in Exists.minimum-exists bondSets (len c) (closed-subgroup c) b
-
   -- A relevant ring is in some minimum basis (003, lemma 1).
   pub relevant-in-some-minimum : {C : ℕ} → Relevant c C → (R : List ℕ) × Minimum c (C ∷ R)
-  relevant-in-some-minimum r = let (B, m) = minimum-exists in relevant-in-minimum bondSets (len c) (Closed c) m (relevant-no-sum r)
+  relevant-in-some-minimum r = let (B, m) = minimum-exists c sound in relevant-in-minimum bondSets (len c) (Closed c) m (relevant-no-sum r)
 
   -- What is in some minimum basis is a relevant ring (003, lemma 1).
   pub in-some-minimum-relevant : {C : ℕ} {R : List ℕ} → Minimum c (C ∷ R) → Relevant c C
@@ -78,21 +68,18 @@ module _ (c : Compound) (sound : Sound c) where
   pub minimum-members-relevant : {B : List ℕ} → Minimum c B → All (Relevant c) B
   minimum-members-relevant m = all-map (λ C r. no-sum-relevant r) (minimum-relevant bondSets (len c) (Closed c) m)
 
-  decide-relevant : {B : List ℕ} {C : ℕ} → Minimum c B → Dec (Span bondSets B C) → Dec (Span bondSets (below (len c) (len c C) B) C) → Dec (Relevant c C)
-  decide-relevant {C} m (no n) d = no λ r. n (spanned bondSets (m .basis .spans) C (r .ring .closed))
-  decide-relevant {C} m (yes s) (yes t) =
+  decide-relevant : {B : List ℕ} {C : ℕ} → Minimum c B → Dec (Closed c C) → Dec (Span bondSets (below (len c) (len c C) B) C) → Dec (Relevant c C)
+  decide-relevant m (no n) d = no λ r. n (r .ring .closed)
+  decide-relevant {C} m (yes w) (yes t) =
       no λ r. relevant-not-span bondSets (len c) (Closed c) (minimum-spans-short bondSets (len c) (Closed c) m (len c C)) refl (relevant-no-sum r) t
-  decide-relevant {C} m (yes s) (no n) =
-      yes
-      (no-sum-relevant
-      (not-span-relevant bondSets (len c) (Closed c) (minimum-spans-short bondSets (len c) (Closed c) m (len c C))
-      (span-inside bondSets (closed-subgroup c) (m .basis .inside) s) refl n))
+  decide-relevant {C} m (yes w) (no n) =
+      yes (no-sum-relevant (not-span-relevant bondSets (len c) (Closed c) (minimum-spans-short bondSets (len c) (Closed c) m (len c C)) w refl n))
 
   -- Whether a bond set is a relevant ring is decided.
   pub relevant-dec : (C : ℕ) → Dec (Relevant c C)
   relevant-dec C =
-      let (B, m) = minimum-exists in
-      decide-relevant m (span-dec bondSets B C) (span-dec bondSets (below (len c) (len c C) B) C)
+      let (B, m) = minimum-exists c sound in
+      decide-relevant m (closed-dec c sound C) (span-dec bondSets (below (len c) (len c C) B) C)
 
   -- Once the closed sets shorter than k have as many independent members as the cyclomatic number says, no relevant ring has length k or more.
   pub full-no-longer : {k C : ℕ} {S : List ℕ} → OnePiece c → 0 < c .n → Indep bondSets S → SpansShort bondSets (len c) (Closed c) k S
@@ -109,7 +96,8 @@ ascending-long : {f : Family} {fs : List Family} → Ascending (f ∷ fs) → Al
 ascending-long Ascending.one = All.nil
 ascending-long (Ascending.more l a) = let h = less-first l in All.cons h (all-map (λ g q. omega arith) (ascending-long a))
 
-ascending-rest : {f : Family} {fs : List Family} → Ascending (f ∷ fs) → Ascending fs
+-- Without the first one the others are in order.
+pub ascending-rest : {f : Family} {fs : List Family} → Ascending (f ∷ fs) → Ascending fs
 ascending-rest Ascending.one = Ascending.none
 ascending-rest (Ascending.more l a) = a
 

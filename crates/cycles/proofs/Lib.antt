@@ -14,7 +14,9 @@ pub mod MembersCorners
 pub mod MembersAround
 pub mod Members
 pub mod Dimension
+pub mod Exists
 pub mod Few
 pub mod Bases
 pub mod Swaps
 pub mod Ranks
+pub mod Unique

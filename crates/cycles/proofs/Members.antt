@@ -96,6 +96,7 @@ module _ (c : Compound) (sound : Sound c) (rank : ℕ → ℕ) (injective : (a b
       → AllDown (f .r) (f .q) d b → Size c rank f (a * b)
   size-is-product kept candidate s t = all-pairs candidate kept s t
 
+module _ (c : Compound) (rank : ℕ → ℕ) where
   -- A family has one size.
   pub size-unique : {f : Family} {s t : ℕ} → Size c rank f s → Size c rank f t → s ≡ t
   size-unique s t =

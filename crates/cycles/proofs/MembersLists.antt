@@ -8,11 +8,9 @@ use native.Mathlib.Omega.{arith}
 use lib.ListN.{length, length-append}
 use Rattle.spans.specs.Elements.{_∈_, Once}
 use Rattle.spans.proofs.Lists.{Pick}
+use Rattle.cycles.proofs.PathsDecide.{not-in-none}
 
 module _ {X : Type 0} where
-  not-in-nil : {a : X} → a ∈ [] → ⊥
-  not-in-nil = elim [ ]
-
   in-pick : {x : X} {ys : List X} → x ∈ ys → (zs : List X) × Pick ys x zs
   in-pick _∈_.first = (_, Pick.here)
   in-pick (_∈_.later h) = (_, Pick.there (in-pick h .1))
@@ -73,7 +71,7 @@ module _ {A B X : Type 0} (Makes : A → B → X → Type 0) (unique : (a : A) (
   line Once.none total = record {
     made = [];
     once = Once.none;
-    all = λ z. (λ h. absurd (not-in-nil h), λ w. absurd (not-in-nil (w .1)));
+    all = λ z. (λ h. absurd (not-in-none h), λ w. absurd (not-in-none (w .1)));
     count = refl;
   }
   line {a} (Once.more {x = b} {xs = bs} fresh once) total = go (total b _∈_.first) (line once (λ b h. total b (_∈_.later h)))
@@ -109,7 +107,7 @@ module _ {A B X : Type 0} (Makes : A → B → X → Type 0) (unique : (a : A) (
   table Once.none ys total = record {
     made = [];
     once = Once.none;
-    all = λ z. (λ h. absurd (not-in-nil h), λ w. absurd (not-in-nil (w .2)));
+    all = λ z. (λ h. absurd (not-in-none h), λ w. absurd (not-in-none (w .2)));
     count = omega arith;
   }
   table {ys} (Once.more {x = a} {xs = xs} fresh once) bs total =

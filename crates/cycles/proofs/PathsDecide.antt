@@ -10,7 +10,8 @@ use Rattle.spans.specs.Elements.{_∈_}
 use Rattle.cycles.specs.Compound.{Compound, m, one, other, Joins, Bonded, Walk, Distance, Sound}
 use Rattle.cycles.specs.Family.{Precedes, Down}
 
-both-dec : {A B : Type 0} → Dec A → Dec B → Dec (A × B)
+-- Both hold, or not.
+pub both-dec : {A B : Type 0} → Dec A → Dec B → Dec (A × B)
 both-dec (yes a) (yes b) = yes (a, b)
 both-dec (yes a) (no n) = no (λ p. n (p .1))
 both-dec (no n) d = no (λ p. n (p .0))
@@ -20,11 +21,12 @@ either-dec (yes a) d = yes (inl a)
 either-dec (no n) (yes b) = yes (inr b)
 either-dec (no n) (no k) = no (elim [ inl a ↦ n a | inr b ↦ k b ])
 
--- No number is in the empty list.
-pub not-in-none : {a : ℕ} → a ∈ [] → ⊥
+-- Nothing is in the empty list.
+pub not-in-none : {X : Type 0} {a : X} → a ∈ [] → ⊥
 not-in-none = elim [ ]
 
-in-cases : {a b : ℕ} {Q : List ℕ} → a ∈ (b ∷ Q) → (b ≡ a) ⊎ (a ∈ Q)
+-- An element is the first one or is among the others.
+pub in-cases : {X : Type 0} {a b : X} {Q : List X} → a ∈ (b ∷ Q) → (b ≡ a) ⊎ (a ∈ Q)
 in-cases _∈_.first = inl refl
 in-cases (_∈_.later h) = inr h
 

@@ -37,7 +37,8 @@ module _ {X : Type 0} where
   all-each [] f = All.nil
   all-each (x ∷ xs) f = All.cons (f x _∈_.first) (all-each xs (λ y i. f y (_∈_.later i)))
 
-  at-element : {xs : List X} {i : ℕ} {x : X} → At xs i x → x ∈ xs
+  -- What stands at a place is an element.
+  pub at-element : {xs : List X} {i : ℕ} {x : X} → At xs i x → x ∈ xs
   at-element At.here = _∈_.first
   at-element (At.later a) = _∈_.later (at-element a)
 
@@ -194,10 +195,12 @@ module _ (c : Compound) (sound : Sound c) (rank : ℕ → ℕ) where
         interchangeable = i;
       }
 
-  together-sym : {f g : Family} → Together c rank f g → Together c rank g f
+  -- If f is together with g, then g is with f.
+  pub together-sym : {f g : Family} → Together c rank f g → Together c rank g f
   together-sym t = interchangeable-together (t .prototypeD) (t .prototypeC) (interchangeable-sym c (t .interchangeable))
 
-  together-trans : {f g h : Family} → Together c rank f g → Together c rank g h → Together c rank f h
+  -- What is together with one is together with all that it is with.
+  pub together-trans : {f g h : Family} → Together c rank f g → Together c rank g h → Together c rank f h
   together-trans t u =
       interchangeable-together (t .prototypeC) (u .prototypeD)
       (interchangeable-trans c sound (together-interchangeable t (t .prototypeC) (u .prototypeC)) (u .interchangeable))
@@ -234,10 +237,11 @@ module _ (c : Compound) (sound : Sound c) (rank : ℕ → ℕ) where
   classes-kept (Classes.new n e cl) (All.cons k r) b = classes-kept cl r (all-append b (All.cons k All.nil))
 
   -- No two of the first families are together.
-  abbrev Apart : List Family → Type 0
+  abbrev pub Apart : List Family → Type 0
   Apart firsts = (i j : ℕ) (g h : Family) → At firsts i g → At firsts j h → Together c rank g h → i ≡ j
 
-  apart-more : {f : Family} (before : List Family) → ((g : Family) → g ∈ before → Together c rank f g → ⊥) → Apart before → Apart (before ++ (f ∷ []))
+  -- A family that is together with none of them may join them.
+  pub apart-more : {f : Family} (before : List Family) → ((g : Family) → g ∈ before → Together c rank f g → ⊥) → Apart before → Apart (before ++ (f ∷ []))
   apart-more {f} before n d i j g h a b t = go (at-snoc before a) (at-snoc before b)
     where
       go : At before i g ⊎ ((i ≡ length before) × (g ≡ f)) → At before j h ⊎ ((j ≡ length before) × (h ≡ f)) → i ≡ j
@@ -251,7 +255,8 @@ module _ (c : Compound) (sound : Sound c) (rank : ℕ → ℕ) where
   classes-apart (Classes.old a t cl) d = classes-apart cl d
   classes-apart (Classes.new {before = before} n e cl) d = classes-apart cl (apart-more before n d)
 
-  apart-none : Apart []
+  -- Of no families no two are together.
+  pub apart-none : Apart []
   apart-none i j g h a b t = absurd (let l : i < 0 = at-below a in omega arith)
 
   module _ {K : ℕ → Type 0} (i : ℕ) where

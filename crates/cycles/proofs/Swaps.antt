@@ -16,7 +16,8 @@ use Rattle.cycles.specs.Ring.{len, Closed, Relevant}
 use Rattle.cycles.specs.Basis.{Minimum, Interchangeable}
 use Rattle.cycles.specs.Family.{Family, Prototype, Member, Kept}
 use Rattle.cycles.proofs.Families.{member-relevant}
-use Rattle.cycles.proofs.Bases.{relevant-no-sum, no-sum-relevant, minimum-exists, member-near-prototype}
+use Rattle.cycles.proofs.Exists.{minimum-exists}
+use Rattle.cycles.proofs.Bases.{relevant-no-sum, no-sum-relevant, member-near-prototype}
 
 module _ (c : Compound) where
   -- Every ring is interchangeable with itself.

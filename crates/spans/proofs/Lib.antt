@@ -11,10 +11,8 @@ pub mod Minimum
 pub mod Classes
 pub mod Labelled
 pub mod Labels
-pub mod Greedy
 pub mod Profile
 pub mod Short
 pub mod Marking
 pub mod Replace
 pub mod Kernel
-pub mod Exists

@@ -63,8 +63,7 @@ module _ {X : Type 0} (G : Space X) where
   marking-all (Marking.skip s m) b (All.cons a r) = marking-all m b r
 
   module _ (ℓ : X → ℕ) where
-    -- Those shorter than k span each of the list that is shorter than k.
-    pub low-own : {k : ℕ} {xs ys : List X} → Sift (λ x. ℓ x < k) xs ys → All (λ x. ℓ x < k → Span G ys x) xs
+    low-own : {k : ℕ} {xs ys : List X} → Sift (λ x. ℓ x < k) xs ys → All (λ x. ℓ x < k → Span G ys x) xs
     low-own Sift.nil = All.nil
     low-own (Sift.inn p s) = All.cons (λ h. head G) (all-map (λ x f h. Span.skip (f h)) (low-own s))
     low-own (Sift.out n s) = All.cons (λ h. absurd (n h)) (low-own s)

@@ -52,16 +52,19 @@ module _ {X : Type 0} (G : Space X) (ℓ : X → ℕ) (W : X → Type 0) where
         basis = basis-swap G W (basis-perm G W p b) w (u .remains);
       }
 
-  pub minimum-graded : {B : List X} → Minimum G ℓ W B → Graded G ℓ W B
+  -- A basis whose members shorter than k do not span an element shorter than k gives way to one of less total length.
+  pub shorter-basis : {B : List X} {s : X} (k : ℕ) → Basis G W B → W s → ℓ s < k → ¬ Span G (below ℓ k B) s
+      → (C : List X) × Basis G W C × (total ℓ C < total ℓ B)
   unfolding total
+  shorter-basis {s} k b w h n =
+      let r = replaced k b w n in (s ∷ r .others, r .basis, omega (arith, r .long, total-perm ℓ (r .perm)))
+
+  pub minimum-graded : {B : List X} → Minimum G ℓ W B → Graded G ℓ W B
   minimum-graded {B} m = record { spans = λ k. spans G (λ s w. by-cases k s (w .0) (w .1) (span-dec G (below ℓ k B) s)) }
     where
-      not-longer : {k : ℕ} {s : X} → ℓ s < k → Replaced k B s → ⊥
-      not-longer {s} h r = omega (arith, r .long, m .least (s ∷ r .others) (r .basis), total-perm ℓ (r .perm))
-
       by-cases : (k : ℕ) (s : X) → W s → ℓ s < k → Dec (Span G (below ℓ k B) s) → Span G (below ℓ k B) s
       by-cases k s w h (yes t) = t
-      by-cases k s w h (no n) = absurd (not-longer h (replaced k (m .basis) w n))
+      by-cases k s w h (no n) = let (C, b, l) = shorter-basis k (m .basis) w h n in absurd (omega (arith, m .least C b))
 
   -- An element that the shorter members of a minimum basis do not span is in a minimum basis.
   pub relevant-in : {B : List X} (x : X) → Minimum G ℓ W B → W x → ¬ Span G (below ℓ (ℓ x) B) x → (R : List X) × Minimum G ℓ W (x ∷ R)
