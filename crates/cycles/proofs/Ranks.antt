@@ -50,11 +50,11 @@ module _ {X : Type 0} where
   at-unique At.here At.here = refl
   at-unique (At.later a) (At.later b) = at-unique a b
 
-  at-append : {xs : List X} {i : ℕ} {x : X} (ys : List X) → At xs i x → At (xs ++ ys) i x
+  pub at-append : {xs : List X} {i : ℕ} {x : X} (ys : List X) → At xs i x → At (xs ++ ys) i x
   at-append ys At.here = At.here
   at-append ys (At.later a) = At.later (at-append ys a)
 
-  at-end : (xs : List X) (x : X) → At (xs ++ (x ∷ [])) (length xs) x
+  pub at-end : (xs : List X) (x : X) → At (xs ++ (x ∷ [])) (length xs) x
   at-end [] x = At.here
   at-end (y ∷ xs) x = At.later (at-end xs x)
 
