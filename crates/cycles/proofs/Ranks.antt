@@ -33,7 +33,8 @@ in-map f _∈_.first = _∈_.first
 in-map f (_∈_.later i) = _∈_.later (in-map f i)
 
 module _ {X : Type 0} where
-  all-each : {P : X → Type 0} (xs : List X) → ((x : X) → x ∈ xs → P x) → All P xs
+  -- What holds of each element holds of all.
+  pub all-each : {P : X → Type 0} (xs : List X) → ((x : X) → x ∈ xs → P x) → All P xs
   all-each [] f = All.nil
   all-each (x ∷ xs) f = All.cons (f x _∈_.first) (all-each xs (λ y i. f y (_∈_.later i)))
 
@@ -42,7 +43,8 @@ module _ {X : Type 0} where
   at-element At.here = _∈_.first
   at-element (At.later a) = _∈_.later (at-element a)
 
-  at-below : {xs : List X} {i : ℕ} {x : X} → At xs i x → i < length xs
+  -- A place of the list is below its length.
+  pub at-below : {xs : List X} {i : ℕ} {x : X} → At xs i x → i < length xs
   at-below At.here = omega arith
   at-below (At.later a) = omega (arith, at-below a)
 

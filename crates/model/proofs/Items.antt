@@ -15,7 +15,8 @@ use Rattle.model.specs.Fold.{through, each, count}
 use Rattle.model.specs.Net.{Net, netOf}
 use Rattle.model.specs.Layer.{layer, layersInto, walk, ways}
 use Rattle.model.specs.State.{State, judged, link, tried}
-use Rattle.model.specs.Run.{Run, seek, tops, topLoop, lengthLoop}
+use Rattle.model.specs.Loops.{seek, tops, topLoop, lengthLoop}
+use Rattle.model.specs.Run.{Run}
 use Rattle.model.proofs.Ready.{Ready, Layered}
 use Rattle.model.proofs.Layers.{layers-layered}
 use Rattle.model.proofs.Walks.{Given, walk-given}
@@ -58,8 +59,8 @@ module _ (c : Compound) (rank pre : ℕ → ℕ) (ready : Ready c rank pre) wher
   pub record Pass (k : ℕ) (s : Run) : Type 0 where
     pub tries : List Try
     pub items : Items k tries
-    pub state : (lengthLoop (netOf c) pre k s) .state ≡ through judge tries (s .state)
-    pub room : length ((lengthLoop (netOf c) pre k s) .layers) ≡ length (s .layers)
+    pub state : (lengthLoop (netOf c) (tried (netOf c)) pre k s) .state ≡ through judge tries (s .state)
+    pub room : length ((lengthLoop (netOf c) (tried (netOf c)) pre k s) .layers) ≡ length (s .layers)
 
   abbrev G : Net
   G = netOf c
@@ -134,7 +135,7 @@ module _ (c : Compound) (rank pre : ℕ → ℕ) (ready : Ready c rank pre) wher
         (λ f m. try-good (named r first) (layers-layered c rank pre ready r (k / 2) us room) (of r m) (under-candidate c rank pre ready r (named r first) k long m)))
         (tries-good rs (wrote r us) long (rw (length-wrote r us) room) (λ r′ m. named r′ (later m)))
 
-    seek-tried : (r : ℕ) (us : List ℕ) (st : State) → Layered c pre r (k / 2) us → seek G k r us st ≡ through judge (map (try us) (candidates r)) st
+    seek-tried : (r : ℕ) (us : List ℕ) (st : State) → Layered c pre r (k / 2) us → seek G (tried G) k r us st ≡ through judge (map (try us) (candidates r)) st
     unfolding tried
     seek-tried r us st layered =
         seek-found G k r us st
@@ -142,20 +143,20 @@ module _ (c : Compound) (rank pre : ℕ → ℕ) (ready : Ready c rank pre) wher
         (layered .are (k / 2 - 1) (omega arith))
         ∙ sym (through-map judge (try us) (candidates r) st)
 
-    state-is : (rs : List ℕ) (s : Run) → k / 2 < length (s .layers) → (through (topLoop G pre k) rs s) .state ≡ through judge (triesOf rs (s .layers)) (s .state)
+    state-is : (rs : List ℕ) (s : Run) → k / 2 < length (s .layers) → (through (topLoop G (tried G) pre k) rs s) .state ≡ through judge (triesOf rs (s .layers)) (s .state)
     unfolding through topLoop triesOf
     state-is [] s room = refl
     state-is (r ∷ rs) s room =
         let us = wrote r (s .layers) in
         let more : k / 2 < length us = rw (length-wrote r (s .layers)) room in
-        state-is rs (topLoop G pre k r s) more
+        state-is rs (topLoop G (tried G) pre k r s) more
         ∙ ap (λ (st : State). through judge (triesOf rs us) st) (seek-tried r us (s .state) (layers-layered c rank pre ready r (k / 2) (s .layers) room))
         ∙ sym (through-append judge (map (try us) (candidates r)) (triesOf rs us) (s .state))
 
-    room-is : (rs : List ℕ) (s : Run) → length ((through (topLoop G pre k) rs s) .layers) ≡ length (s .layers)
+    room-is : (rs : List ℕ) (s : Run) → length ((through (topLoop G (tried G) pre k) rs s) .layers) ≡ length (s .layers)
     unfolding through topLoop
     room-is [] s = refl
-    room-is (r ∷ rs) s = room-is rs (topLoop G pre k r s) ∙ length-wrote r (s .layers)
+    room-is (r ∷ rs) s = room-is rs (topLoop G (tried G) pre k r s) ∙ length-wrote r (s .layers)
 
   -- Every loop over one length is such a pass.
   pub length-pass : (k : ℕ) (s : Run) → 3 ≤ k → k ≤ c .n → 33 ≤ length (s .layers) → Pass k s

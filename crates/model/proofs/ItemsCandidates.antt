@@ -14,7 +14,7 @@ use Rattle.cycles.specs.Family.{Family, Precedes, Down, Under, Candidate, Proto
 use Rattle.cycles.proofs.Families.{chosen-down}
 use Rattle.model.specs.Net.{Net, netOf, nbrs}
 use Rattle.model.specs.Layer.{layer}
-use Rattle.model.specs.Run.{above, fam, tops}
+use Rattle.model.specs.Loops.{above, fam, tops}
 use Rattle.model.proofs.Ready.{Ready, DownFrom}
 use Rattle.model.proofs.Layers.{nbrs-bonded, nbrs-small, bonded-sym, layer-down}
 use Rattle.model.proofs.NetBits.{and-has}

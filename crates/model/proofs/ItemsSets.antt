@@ -16,7 +16,7 @@ use Rattle.bondset.proofs.Members.{mem-of-bit, members-step, members-zero}
 use Rattle.cycles.proofs.PathsDown.{in-one}
 use Rattle.model.specs.Fold.{through, count}
 use Rattle.model.specs.Net.{Net, nbrs}
-use Rattle.model.specs.Run.{above, two, topStep, tops}
+use Rattle.model.specs.Loops.{above, two, topStep, tops}
 use Rattle.model.proofs.NetBits.{or-has, pow-has}
 
 -- ---- the members above p

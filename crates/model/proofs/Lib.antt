@@ -24,3 +24,8 @@ pub mod Numbers
 pub mod FaultsTests
 pub mod FaultsReach
 pub mod Faults
+pub mod MeetsRows
+pub mod MeetsBounds
+pub mod MeetsEvents
+pub mod Meets
+pub mod BenchRight

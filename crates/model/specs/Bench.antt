@@ -11,7 +11,8 @@ use Rattle.model.specs.Fold.{through, each, count}
 use Rattle.model.specs.Net.{near1, touch1, readAdj, readTouch, adjOf, touchOf, netOf, near, bond, preceding}
 use Rattle.model.specs.Layer.{spread, wave, layer, layersInto, walk, ways}
 use Rattle.model.specs.State.{start, marked, labelsIn, relabel, joined, unmarked, kept, judged, link, tried}
-use Rattle.model.specs.Run.{above, partners, oddLoop, tipLoop, evenLoop, seek, two, topStep, tops, topLoop, more, numbered, classed, settled, lengthLoop, round, runAll, reportBy, report}
+use Rattle.model.specs.Loops.{above, partners, oddLoop, tipLoop, evenLoop, seek, two, topStep, tops, topLoop, lengthLoop, lengthRound}
+use Rattle.model.specs.Run.{more, numbered, classed, settled, runAll, reportBy, report}
 
 pub record Case : Type 0 where
   pub compound : Compound
@@ -87,7 +88,7 @@ bench =
 
 -- `report` with all that it calls open, to be run.
 unfoldable pub computed : Compound → Report
-unfolding trailingZeros single members rowAt putRow reducedBy usedBy reduced used pushedTag pivotOf through each count near1 touch1 readAdj readTouch adjOf touchOf netOf near bond preceding spread wave layer layersInto walk ways start marked labelsIn relabel joined unmarked kept judged link tried above partners oddLoop tipLoop evenLoop seek two topStep tops topLoop more numbered classed settled lengthLoop round runAll reportBy report
+unfolding trailingZeros single members rowAt putRow reducedBy usedBy reduced used pushedTag pivotOf through each count near1 touch1 readAdj readTouch adjOf touchOf netOf near bond preceding spread wave layer layersInto walk ways start marked labelsIn relabel joined unmarked kept judged link tried above partners oddLoop tipLoop evenLoop seek two topStep tops topLoop lengthLoop lengthRound more numbered classed settled runAll reportBy report
 computed c = report c
 
 abbrev pub All : {X : Type 0} → (X → Type 0) → List X → Type 0

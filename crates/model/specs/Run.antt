@@ -1,74 +1,15 @@
--- The candidates of a length and a top atom in order, all lengths, the classes of a length, and the report.
-use mathlib.Core.Bool.{Bool, cond}
+-- The classes of a length, all lengths, and the report.
+use mathlib.Core.Bool.{cond}
 use mathlib.Core.List.{List, [], _∷_, _++_, map}
-use Prim.Native.Nat.{ℕ, _+_, _-_, _*_, _/_, _%_, _^_}
-use lib.Bits.{bitAnd, bitOr}
-use lib.Dec.{eqb, ltb}
+use Prim.Native.Nat.{ℕ, _+_, _-_}
+use lib.Dec.{eqb}
 use lib.ListN.{length, getD, set, replicate}
 use Rattle.cycles.specs.Compound.{Compound, cyclomatic}
-use Rattle.cycles.specs.Family.{Family}
 use Rattle.cycles.specs.Rows.{Row, ClassRow, Report}
-use Rattle.bondset.specs.Sets.{members}
 use Rattle.model.specs.Fold.{through, count}
-use Rattle.model.specs.Net.{Net, netOf, nbrs, preceding}
-use Rattle.model.specs.Layer.{layersInto}
+use Rattle.model.specs.Net.{Net, netOf, preceding}
 use Rattle.model.specs.State.{State, start, tried}
-
--- The atoms of a set above p.
-unfoldable pub above : ℕ → ℕ → ℕ
-above s p = s / 2 ^ (p + 1) * 2 ^ (p + 1)
-
-abbrev pub fam : ℕ → ℕ → ℕ → ℕ → ℕ → Family
-fam k r x p q = record { long = k; r = r; p = p; q = q; x = x }
-
-module _ (G : Net) (us : List ℕ) (d k r : ℕ) where
-  -- All q of a set, with p.
-  unfoldable pub partners : ℕ → ℕ → ℕ → State → State
-  partners x p qs st = through (λ q st. tried G us d (fam k r x p q) st) (members 64 qs) st
-
-  -- odd: p and q in one layer, bonded
-  unfoldable pub oddLoop : ℕ → State → State
-  oddLoop u st = through (λ p st. partners 255 p (bitAnd (above u p) (nbrs G p)) st) (members 64 u) st
-
-  -- even: p and q in the layer before that of x, both bonded to x
-  unfoldable pub tipLoop : ℕ → ℕ → State → State
-  tipLoop x ps st = through (λ p st. partners x p (above ps p) st) (members 64 ps) st
-
-  unfoldable pub evenLoop : ℕ → ℕ → State → State
-  evenLoop u below st = through (λ x st. tipLoop x (bitAnd (nbrs G x) below) st) (members 64 u) st
-
--- The layers as they were last written, and the state.
-pub record Run : Type 0 where
-  pub layers : List ℕ
-  pub state : State
-
-abbrev pub run : List ℕ → State → Run
-run us st = record { layers = us; state = st }
-
--- All candidates of length k with top atom r.
-unfoldable pub seek : Net → ℕ → ℕ → List ℕ → State → State
-seek G k r us st =
-    let h = k / 2 in
-    cond (eqb (k % 2) 1) (oddLoop G us h k r (getD us h 0) st) (evenLoop G us (h - 1) k r (getD us h 0) (getD us (h - 1) 0) st)
-
--- The atoms with two or more neighbours that precede them: the candidates of every other top atom are dropped.
-unfoldable pub two : ℕ → Bool
-two s = ltb 0 (bitAnd s (s - 1))
-
-module _ (G : Net) (pre : ℕ → ℕ) where
-  unfoldable pub topStep : ℕ → ℕ → ℕ
-  topStep r acc = cond (two (bitAnd (nbrs G r) (pre r))) (bitOr acc (2 ^ r)) acc
-
-  unfoldable pub tops : ℕ
-  tops = through topStep (count 0 (G .n)) 0
-
-  -- The layers under r down to k / 2, and then the candidates.
-  unfoldable pub topLoop : ℕ → ℕ → Run → Run
-  topLoop k r s = let us = layersInto G (pre r) r (k / 2) (s .layers) in run us (seek G k r us (s .state))
-
-  -- All candidates of one length.
-  unfoldable pub lengthLoop : ℕ → Run → Run
-  lengthLoop k s = through (topLoop k) (members 64 tops) s
+use Rattle.model.specs.Loops.{Running, running, lengthRound}
 
 -- The classes of the length in hand: marked ring i opens a new class if it is its own label, or joins that of its label.
 pub record Numbering : Type 0 where
@@ -119,13 +60,17 @@ settled k st =
       table = s .table;
     }
 
+-- The layers and the state.
+abbrev pub Run : Type 0
+Run = Running State
+
 module _ (G : Net) (pre : ℕ → ℕ) (full : ℕ) where
   -- One length, and its classes; nothing once the basis is full.
-  unfoldable pub round : ℕ → Run → Run
-  round k s = cond (ltb (s .state .marks) full) (let t = lengthLoop G pre k s in run (t .layers) (settled k (t .state))) s
+  abbrev pub round : ℕ → Run → Run
+  round k s = lengthRound G (tried G) pre (λ st. st .marks) (λ k before after. settled k after) full k s
 
   unfoldable pub runAll : Run
-  runAll = through round (count 3 (G .n - 2)) (run (replicate 33 0) start)
+  runAll = through round (count 3 (G .n - 2)) (running (replicate 33 0) start)
 
 -- The report, for any way `pre` of saying which atoms precede an atom.
 unfoldable pub reportBy : (ℕ → ℕ) → Compound → Report
