@@ -31,7 +31,6 @@ use Rattle.cycles.specs.Rows.{Row, ClassRow, Ascending, Marks, Classes, classRo
 use Rattle.cycles.specs.Refusal.{Accepted}
 use Rattle.cycles.proofs.Bases.{no-sum-relevant, full-no-longer, prototype-long}
 use Rattle.cycles.proofs.Dimension.{closed-basis, dimension-one-piece}
-use Rattle.cycles.proofs.Exists.{minimum-exists}
 use Rattle.cycles.proofs.Members.{relevant-in-family}
 use Rattle.cycles.proofs.MembersLists.{in-left, in-right, in-append}
 use Rattle.cycles.proofs.PathsDecide.{not-in-none}
@@ -146,10 +145,9 @@ module _ (c : Compound) (rank pre : ℕ → ℕ) (ready : Ready c rank pre) wher
       (a : After c rank pre ready k (r .S) tries (s .state) after) where
     numbered-new : Numbered c rank pre ready k (r .S) (a .M) (a .events) (s .state .labels) (s .state .holds) (s .state .table) (r .firsts)
     numbered-new =
-        let (B, minimum) = minimum-exists c (ready .sound) in
         classes-numbered c rank pre ready k (r .S) (a .M) tries (a .events) (s .state .labels) (s .state .holds) (s .state .table) (r .firsts)
         (a .steps) (items .long) (r .before .independent) (r .before .spans) (a .near) (a .few) (r .before .roomy .labels) (r .before .roomy .holds)
-        (ap length (r .table-is) ∙ length-classRows (s .state .done) 0 (r .firsts)) (r .listed .short) B minimum
+        (ap length (r .table-is) ∙ length-classRows (s .state .done) 0 (r .firsts)) (r .listed .short)
 
     settled-before : Before c rank pre ready (k + 1) (r .S ++ a .M) (settled k after)
     unfolding settled

@@ -11,7 +11,6 @@ use Rattle.spans.proofs.Short.{SpansShort}
 use Rattle.bondset.proofs.Group.{bondSets}
 use Rattle.cycles.specs.Compound.{Compound}
 use Rattle.cycles.specs.Ring.{len, Closed}
-use Rattle.cycles.specs.Basis.{Minimum}
 use Rattle.cycles.specs.Family.{Family}
 use Rattle.cycles.specs.Rows.{Row, ClassRow, Classes, classRows}
 use Rattle.model.specs.Fold.{through, count}
@@ -48,9 +47,9 @@ module _ (c : Compound) (rank pre : ℕ → ℕ) (ready : Ready c rank pre) wher
       → Steps c rank pre ready S [] tries M es → All (λ t. t .family .long ≡ k) tries
       → Indep bondSets S → SpansShort bondSets (len c) (Closed c) k S → NearEvents c rank pre ready k es
       → length S + length M ≤ 82 → length labels ≡ 82 → length holds ≡ 82 → length table ≡ length firsts → All (λ f. f .long < k) firsts
-      → (B : List ℕ) → Minimum c B → Numbered k S M es labels holds table firsts
+      → Numbered k S M es labels holds table firsts
   unfolding classed
-  classes-numbered k S M tries es labels holds table firsts steps long indep spans near fits labelRoom holdRoom same older B minimum =
+  classes-numbered k S M tries es labels holds table firsts steps long indep spans near fits labelRoom holdRoom same older =
       record {
         new = news lab es;
         classes =
