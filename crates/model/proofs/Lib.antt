@@ -29,3 +29,4 @@ pub mod MeetsBounds
 pub mod MeetsEvents
 pub mod Meets
 pub mod BenchRight
+pub mod Related
