@@ -1,0 +1,147 @@
+-- The turns of the loops that fill the table of path counts.
+use mathlib.Core.Path.{_≡_, refl, sym, ap, _∙_}
+use mathlib.Core.List.{List, []}
+use Prim.Native.Nat.{ℕ, zero, suc, _+_, _-_, _^_, _<_, _≤_}
+use native.Mathlib.Numerals.{add-one}
+use native.Mathlib.Omega.{arith}
+use native.Mathlib.Decide.{ℕ-discrete}
+use lib.Bits.{bitAnd, differ, and-le-l, and-le-r}
+use lib.ListN.{length, getD, set}
+use lib.Seq.{getD-set-same, getD-set-other}
+use Rattle.bondset.specs.Sets.{bit, members}
+use Rattle.bondset.proofs.Laws.{bit-xor, bit-pow-other, zero-bit, trailing}
+use Rattle.bondset.proofs.Members.{members-zero, members-step, clear-lowest}
+use Rattle.model.specs.Fold.{through}
+use Rattle.model.specs.Layer.{low, ways}
+use Rattle.model.proofs.NetBits.{and-has, lt-of-has}
+use Rattle.paths.specs.Nets.{net}
+use Rattle.paths.specs.Counts.{Disjoint, Table}
+use Rattle.paths.proofs.Bound.{shared-none, le-sum}
+
+-- ---- a set without its lowest atom
+
+abbrev pub others : ℕ → ℕ
+others s = bitAnd s (s - 1)
+
+module _ (s : ℕ) (some : 0 < s) (word : s < 2 ^ 64) where
+  pub others-word : others s < 2 ^ 64
+  others-word = omega (arith, and-le-l s (s - 1))
+
+  pub low-lt : low s < 64
+  low-lt = trailing 64 s some word .small
+
+  pub low-in : bit s (low s) ≡ 1
+  low-in = trailing 64 s some word .here
+
+  others-same : (k : ℕ) → (k ≡ low s → ⊥) → bit (others s) k ≡ bit s k
+  others-same k ne =
+      ap (λ (x : ℕ). bit x k) (clear-lowest 64 s some word) ∙ bit-xor s (2 ^ low s) k
+      ∙ ap (differ (bit s k)) (bit-pow-other (low s) k (λ e. ne (sym e))) ∙ keep (bit s k)
+    where
+      keep : (x : ℕ) → differ x 0 ≡ x
+      keep zero = refl
+      keep (suc x) = refl
+
+  others-part : (k : ℕ) → bit (others s) k ≡ 1 → bit s k ≡ 1
+  others-part k e = and-has s (s - 1) k .0 e .0
+
+-- ---- the sum of the counts of some atoms
+
+-- What remains to be added to `sum` makes `all`, and the atoms that remain are of the layer.
+pub record Adding (adj layers : List ℕ) (e rest sum all : ℕ) : Type 0 where
+  pub word : rest < 2 ^ 64
+  pub inside : (k : ℕ) → bit rest k ≡ 1 → bit (getD layers e 0) k ≡ 1
+  pub makes : through (λ s acc. acc + ways (net adj []) layers e s) (members 64 rest) sum ≡ all
+
+module _ (adj layers : List ℕ) (e : ℕ) where
+  pub adding-start : (t : ℕ) → getD layers e 0 < 2 ^ 64
+      → Adding adj layers e (bitAnd (getD adj t 0) (getD layers e 0)) 0 (ways (net adj []) layers (e + 1) t)
+  unfolding ways
+  adding-start t h = record {
+    word = omega (arith, and-le-r (getD adj t 0) (getD layers e 0));
+    inside = λ k b. and-has (getD adj t 0) (getD layers e 0) k .0 b .1;
+    makes = rw add-one;
+  }
+
+  module _ (rest sum all : ℕ) (adding : Adding adj layers e rest sum all) where
+    pub adding-end : rest ≡ 0 → sum ≡ all
+    unfolding through
+    adding-end z =
+        let none : members 64 rest ≡ [] = ap (members 64) z ∙ members-zero 64 in
+        rw none at (adding .makes)
+
+    module _ (counts : List ℕ) (table : Table adj layers e counts) (some : 0 < rest) where
+      next : through (λ s acc. acc + ways (net adj []) layers e s) (members 64 (others rest)) (sum + getD counts (low rest) 0) ≡ all
+      unfolding through
+      next =
+          let here : getD counts (low rest) 0 ≡ ways (net adj []) layers e (low rest) =
+          table .holds (low rest) (adding .inside (low rest) (low-in rest some (adding .word))) in
+          rw here (rw (members-step 64 rest some (adding .word)) at (adding .makes))
+
+      pub adding-more : Adding adj layers e (others rest) (sum + getD counts (low rest) 0) all
+      adding-more = record {
+        word = others-word rest some (adding .word);
+        inside = λ k b. adding .inside k (others-part rest some (adding .word) k b);
+        makes = next;
+      }
+
+      -- The sum so far is within the whole.
+      pub adding-le : sum + getD counts (low rest) 0 ≤ all
+      adding-le = rw next at (le-sum (ways (net adj []) layers e) (members 64 (others rest)) (sum + getD counts (low rest) 0))
+
+-- ---- a layer of the table
+
+-- The table of layer e is there still, and of layer e + 1 all atoms are done but those that remain.
+pub record Filling (adj layers : List ℕ) (e rest : ℕ) (counts : List ℕ) : Type 0 where
+  pub word : rest < 2 ^ 64
+  pub inside : (k : ℕ) → bit rest k ≡ 1 → bit (getD layers (e + 1) 0) k ≡ 1
+  pub table : Table adj layers e counts
+  pub done : (k : ℕ) → bit (getD layers (e + 1) 0) k ≡ 1 → bit rest k ≡ 0 → getD counts k 0 ≡ ways (net adj []) layers (e + 1) k
+
+module _ (adj layers : List ℕ) (e : ℕ) (disjoint : Disjoint layers (e + 1)) where
+  pub filling-start : (counts : List ℕ) → Table adj layers e counts → Filling adj layers e (getD layers (e + 1) 0) counts
+  filling-start counts table = record { word = disjoint .words (e + 1) (omega arith); inside = λ k b. b; table = table; done = λ k b z. absurd (omega arith) }
+
+  pub filling-end : (rest : ℕ) (counts : List ℕ) → Filling adj layers e rest counts → rest ≡ 0 → Table adj layers (e + 1) counts
+  filling-end rest counts filling z = record { holds = λ k b. filling .done k b (ap (λ (x : ℕ). bit x k) z ∙ zero-bit k) }
+
+  pub filling-more : (rest : ℕ) (counts : List ℕ) (v : ℕ) → 64 ≤ length counts → Filling adj layers e rest counts → 0 < rest
+      → v ≡ ways (net adj []) layers (e + 1) (low rest) → Filling adj layers e (others rest) (set counts (low rest) v)
+  filling-more rest counts v room filling some is = record {
+    word = others-word rest some (filling .word);
+    inside = λ k b. filling .inside k (others-part rest some (filling .word) k b);
+    table = record { holds = λ k b. getD-set-other counts (low rest) k v 0 (apart k b) ∙ filling .table .holds k b };
+    done = λ k b z. go k b z (ℕ-discrete k (low rest));
+  }
+    where
+      here : bit (getD layers (e + 1) 0) (low rest) ≡ 1
+      here = filling .inside (low rest) (low-in rest some (filling .word))
+
+      apart : (k : ℕ) → bit (getD layers e 0) k ≡ 1 → k ≡ low rest → ⊥
+      apart k b same = shared-none layers (e + 1) disjoint e (e + 1) k (omega arith) (omega arith) b (rw same here)
+
+      go : (k : ℕ) → bit (getD layers (e + 1) 0) k ≡ 1 → bit (others rest) k ≡ 0 → Dec (k ≡ low rest)
+          → getD (set counts (low rest) v) k 0 ≡ ways (net adj []) layers (e + 1) k
+      go k b z (yes same) = rw same (getD-set-same counts (low rest) v 0 (omega (arith, low-lt rest some (filling .word))) ∙ is)
+      go k b z (no ne) =
+          getD-set-other counts (low rest) k v 0 ne ∙ filling .done k b (sym (others-same rest some (filling .word) k ne) ∙ z)
+
+-- ---- all layers
+
+module _ (adj layers : List ℕ) (d : ℕ) (disjoint : Disjoint layers d) where
+  -- Fewer layers share no atom either.
+  pub disjoint-less : (e : ℕ) → e ≤ d → Disjoint layers e
+  disjoint-less e h = record { words = λ i l. disjoint .words i (omega arith); apart = λ i j l m. disjoint .apart i j l (omega arith) }
+
+  -- What is in a layer is one of 64 atoms.
+  pub layer-lt : (t : ℕ) → bit (getD layers d 0) t ≡ 1 → t < 64
+  layer-lt t = lt-of-has 64 (getD layers d 0) t (disjoint .words d (omega arith))
+
+  -- One path leads from the top to the top.
+  pub table-start : (counts : List ℕ) → ((t : ℕ) → t < 64 → getD counts t 0 ≡ 1) → Table adj layers 0 counts
+  unfolding ways
+  table-start counts ones = record { holds = λ t b. ones t (lt-of-has 64 (getD layers 0 0) t (disjoint .words 0 (omega arith)) b) }
+
+pub table-end : (adj layers : List ℕ) (e d : ℕ) (counts : List ℕ) → Table adj layers e counts → e ≡ d
+    → (t : ℕ) → bit (getD layers d 0) t ≡ 1 → getD counts t 0 ≡ ways (net adj []) layers d t
+table-end adj layers e d counts table same = rw same at (table .holds)

@@ -1,0 +1,3 @@
+-- The definitions that the contracts of `paths` cite.
+pub mod Nets
+pub mod Counts
