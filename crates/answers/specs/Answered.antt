@@ -1,7 +1,6 @@
 -- The claim of a call: input, lent buffers, answer, and what the buffers hold afterwards.
-use mathlib.Core.Path.{_≡_}
 use mathlib.Core.List.{List, [], _∷_, _++_}
-use Prim.Native.Nat.{ℕ, suc, _+_, _/_, _%_, _<_, _≤_, min}
+use Prim.Native.Nat.{ℕ, zero, suc, _/_, _%_, _<_, _≤_, min}
 use lib.ListN.{length, drop}
 use Rattle.cycles.specs.Compound.{Compound}
 use Rattle.cycles.specs.Rows.{Row, ClassRow, Report, Right}
@@ -30,7 +29,7 @@ over bytes lent = bytes ++ drop (length bytes) lent
 -- "A second call takes a row number besides, and adds that family's size, 0 past the last row."
 unfoldable pub sizeOf : List Row → ℕ → ℕ
 sizeOf [] i = 0
-sizeOf (row ∷ rows) 0 = row .size
+sizeOf (row ∷ rows) zero = row .size
 sizeOf (row ∷ rows) (suc i) = sizeOf rows i
 
 -- "the lent rows (bytes / 8 rounded down, and at most 4,096)", "the lent rows (bytes / 5 rounded down)"
