@@ -1,0 +1,2 @@
+-- The demands of the project, proved about the claim of a call.
+pub mod Unique
