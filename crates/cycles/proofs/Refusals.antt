@@ -1,6 +1,6 @@
 -- Refusals 1 to 6 shut each other out, and an input that gives none of them is a sound compound.
 use mathlib.Core.Path.{_≡_, refl, sym, _∙_, subst}
-use mathlib.Core.Logic.{_⊎_, inl, inr}
+use mathlib.Core.Logic.{inl, inr}
 use Prim.Native.Nat.{ℕ, _<_}
 use native.Mathlib.Omega.{arith}
 use Rattle.bondset.proofs.Laws.{lt-or-ge}
