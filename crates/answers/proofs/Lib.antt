@@ -1,3 +1,4 @@
 -- The demands of the project, proved about the claim of a call.
 pub mod Unique
+pub mod Places
 pub mod Demand1

@@ -1,0 +1,133 @@
+-- Places in lists: what stands at a place of the rows is what the bytes at that place of the left buffer say.
+use mathlib.Core.Path.{_≡_, refl, sym, _∙_, ap, ap₂, subst}
+use mathlib.Core.List.{List, [], _∷_, _++_}
+use Prim.Native.Nat.{ℕ, zero, suc, _+_, _*_, _/_, _%_, _<_, _≤_}
+use native.Mathlib.Omega.{arith}
+use native.Mathlib.Nat.{div-add-mod'}
+use lib.ListN.{length, getD, drop, length-append, length-drop, List·getD-append}
+use lib.Seq.{getD-append-add, drop-append-seam}
+use Rattle.spans.specs.Elements.{_∈_}
+use Rattle.cycles.specs.Family.{Family}
+use Rattle.cycles.specs.Rows.{Row, ClassRow, At}
+use Rattle.answers.specs.Answered.{familyBytes, classBytes, over, sizeOf}
+use Rattle.answers.specs.Bytes.{byte, familyAt, markAt, classAt, longAt, rankAt, familiesAt, essentialAt}
+
+module _ {X : Type 0} where
+  -- Below its length a list has something at each place.
+  pub at-exists : (xs : List X) (k : ℕ) → k < length xs → (x : X) × At xs k x
+  at-exists [] k h = absurd (omega arith)
+  at-exists (x ∷ xs) zero h = (x, At.here)
+  at-exists (x ∷ xs) (suc k) h = let (y, a) = at-exists xs k (omega arith) in (y, At.later a)
+
+  -- Each element stands at a place.
+  pub element-at : {x : X} {xs : List X} → x ∈ xs → (k : ℕ) × At xs k x
+  element-at _∈_.first = (0, At.here)
+  element-at (_∈_.later i) = let (k, a) = element-at i in (suc k, At.later a)
+
+-- ---- the rows
+pub length-familyBytes : (rows : List Row) → length (familyBytes rows) ≡ 8 * length rows
+unfolding familyBytes
+length-familyBytes [] = refl
+length-familyBytes (row ∷ rows) = omega (arith, length-familyBytes rows)
+
+-- Byte j of row k.
+pub getD-familyBytes : {row : Row} {rows : List Row} {k : ℕ} (j l : ℕ) (rest : List ℕ) → j < 8 → l ≡ 8 * k + j → At rows k row
+    → getD (familyBytes rows ++ rest) l 0 ≡ getD (familyBytes (row ∷ [])) j 0
+unfolding familyBytes
+getD-familyBytes {row} j l rest h e (At.here {xs = rows}) =
+    let d : l ≡ j = omega arith in
+    ap (λ (x : ℕ). getD (familyBytes (row ∷ rows) ++ rest) x 0) d ∙ List·getD-append (familyBytes (row ∷ [])) (familyBytes rows ++ rest) 0 j h
+getD-familyBytes j l rest h e (At.later {y = other} {xs = rows} {i = k} a) =
+    let d : l ≡ 8 + (8 * k + j) = omega arith in
+    ap (λ (x : ℕ). getD (familyBytes (other ∷ rows) ++ rest) x 0) d
+    ∙ getD-append-add (familyBytes (other ∷ [])) (familyBytes rows ++ rest) (8 * k + j) 0
+    ∙ getD-familyBytes j (8 * k + j) rest h refl a
+
+module _ {row : Row} {rows : List Row} {k : ℕ} (lent : List ℕ) (a : At rows k row) where
+  row-byte : (j l : ℕ) → j < 8 → l ≡ 8 * k + j → byte (over (familyBytes rows) lent) l ≡ getD (familyBytes (row ∷ [])) j 0
+  unfolding over
+  row-byte j l h e = getD-familyBytes j l (drop (length (familyBytes rows)) lent) h e a
+
+  -- Row k of the buffer names the family of row k.
+  pub familyAt-row : familyAt (over (familyBytes rows) lent) k ≡ row .family
+  unfolding familyAt familyBytes
+  familyAt-row =
+      let long = row-byte 0 (8 * k) (omega arith) (omega arith) in
+      let r = row-byte 1 (8 * k + 1) (omega arith) refl in
+      let p = row-byte 2 (8 * k + 2) (omega arith) refl in
+      let q = row-byte 3 (8 * k + 3) (omega arith) refl in
+      let x = row-byte 4 (8 * k + 4) (omega arith) refl in
+      λ i. record { long = long i; r = r i; p = p i; q = q i; x = x i }
+
+  -- It has the mark of row k.
+  pub markAt-row : markAt (over (familyBytes rows) lent) k ≡ row .mark
+  unfolding markAt familyBytes
+  markAt-row = row-byte 5 (8 * k + 5) (omega arith) refl
+
+  -- It has the class of row k.
+  pub classAt-row : classAt (over (familyBytes rows) lent) k ≡ row .class
+  unfolding classAt familyBytes
+  classAt-row = row-byte 6 (8 * k + 6) (omega arith) refl
+
+  -- ".. and a byte 0."
+  pub last-byte-row : byte (over (familyBytes rows) lent) (8 * k + 7) ≡ 0
+  unfolding familyBytes
+  last-byte-row = row-byte 7 (8 * k + 7) (omega arith) refl
+
+-- ---- the class rows
+pub length-classBytes : (rows : List ClassRow) → length (classBytes rows) ≡ 5 * length rows
+unfolding classBytes
+length-classBytes [] = refl
+length-classBytes (row ∷ rows) = omega (arith, length-classBytes rows)
+
+-- Byte j of class row g.
+pub getD-classBytes : {row : ClassRow} {rows : List ClassRow} {g : ℕ} (j l : ℕ) (rest : List ℕ) → j < 5 → l ≡ 5 * g + j → At rows g row
+    → getD (classBytes rows ++ rest) l 0 ≡ getD (classBytes (row ∷ [])) j 0
+unfolding classBytes
+getD-classBytes {row} j l rest h e (At.here {xs = rows}) =
+    let d : l ≡ j = omega arith in
+    ap (λ (x : ℕ). getD (classBytes (row ∷ rows) ++ rest) x 0) d ∙ List·getD-append (classBytes (row ∷ [])) (classBytes rows ++ rest) 0 j h
+getD-classBytes j l rest h e (At.later {y = other} {xs = rows} {i = g} a) =
+    let d : l ≡ 5 + (5 * g + j) = omega arith in
+    ap (λ (x : ℕ). getD (classBytes (other ∷ rows) ++ rest) x 0) d
+    ∙ getD-append-add (classBytes (other ∷ [])) (classBytes rows ++ rest) (5 * g + j) 0
+    ∙ getD-classBytes j (5 * g + j) rest h refl a
+
+module _ {row : ClassRow} {rows : List ClassRow} {g : ℕ} (lent : List ℕ) (a : At rows g row) where
+  class-byte : (j l : ℕ) → j < 5 → l ≡ 5 * g + j → byte (over (classBytes rows) lent) l ≡ getD (classBytes (row ∷ [])) j 0
+  unfolding over
+  class-byte j l h e = getD-classBytes j l (drop (length (classBytes rows)) lent) h e a
+
+  -- Class row g of the buffer has the length of class row g.
+  pub longAt-row : longAt (over (classBytes rows) lent) g ≡ row .long
+  unfolding longAt classBytes
+  longAt-row = class-byte 0 (5 * g) (omega arith) (omega arith)
+
+  -- It has its relative rank.
+  pub rankAt-row : rankAt (over (classBytes rows) lent) g ≡ row .rank
+  unfolding rankAt classBytes
+  rankAt-row = class-byte 1 (5 * g + 1) (omega arith) refl
+
+  -- Its low and high byte make up the number of families.
+  pub familiesAt-row : familiesAt (over (classBytes rows) lent) g ≡ row .families
+  unfolding familiesAt classBytes
+  familiesAt-row =
+      let low = class-byte 2 (5 * g + 2) (omega arith) refl in
+      let high = class-byte 3 (5 * g + 3) (omega arith) refl in
+      ap₂ (λ (x y : ℕ). x + 256 * y) low high ∙ omega (arith, div-add-mod' (row .families) 256)
+
+  -- It has its essential mark.
+  pub essentialAt-row : essentialAt (over (classBytes rows) lent) g ≡ row .essential
+  unfolding essentialAt classBytes
+  essentialAt-row = class-byte 4 (5 * g + 4) (omega arith) refl
+
+-- ---- the spare bytes
+-- Bytes that fit are written over, and as many remain.
+pub length-over : (bytes lent : List ℕ) → length bytes ≤ length lent → length (over bytes lent) ≡ length lent
+unfolding over
+length-over bytes lent h = simp (length-append, length-drop) (omega arith)
+
+-- "Bytes after the last stay as they were."
+pub drop-over : (bytes lent : List ℕ) {k : ℕ} → k ≡ length bytes → drop k (over bytes lent) ≡ drop k lent
+unfolding over
+drop-over bytes lent e = rw e (drop-append-seam bytes (drop (length bytes) lent))
