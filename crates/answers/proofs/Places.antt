@@ -1,9 +1,9 @@
 -- Places in lists: what stands at a place of the rows is what the bytes at that place of the left buffer say.
 use mathlib.Core.Path.{_≡_, refl, sym, _∙_, ap, ap₂, subst}
-use mathlib.Core.List.{List, [], _∷_, _++_}
+use mathlib.Core.List.{List, [], _∷_, _++_, append-assoc}
 use Prim.Native.Nat.{ℕ, zero, suc, _+_, _*_, _/_, _%_, _<_, _≤_}
 use native.Mathlib.Omega.{arith}
-use native.Mathlib.Nat.{div-add-mod'}
+use native.Mathlib.Nat.{div-add-mod', mul-zero, mul-suc}
 use lib.ListN.{length, getD, drop, length-append, length-drop, List·getD-append}
 use lib.Seq.{getD-append-add, drop-append-seam}
 use Rattle.spans.specs.Elements.{_∈_}
@@ -24,27 +24,41 @@ module _ {X : Type 0} where
   element-at _∈_.first = (0, At.here)
   element-at (_∈_.later i) = let (k, a) = element-at i in (suc k, At.later a)
 
+-- Blocks of w bytes, one for each element of a list.
+module _ {X : Type 0} (w : ℕ) (block : X → List ℕ) (blocks : List X → List ℕ) (wide : (x : X) → length (block x) ≡ w) (none : blocks [] ≡ [])
+    (more : (x : X) (xs : List X) → blocks (x ∷ xs) ≡ block x ++ blocks xs) where
+  length-blocks : (xs : List X) → length (blocks xs) ≡ w * length xs
+  length-blocks [] = rw none (sym (mul-zero w))
+  length-blocks (x ∷ xs) = rw more (simp length-append (omega (arith, wide x, length-blocks xs, mul-suc w (length xs))))
+
+  getD-blocks : {x : X} {xs : List X} {k : ℕ} (j l : ℕ) (rest : List ℕ) → j < w → l ≡ w * k + j → At xs k x
+      → getD (blocks xs ++ rest) l 0 ≡ getD (block x) j 0
+  getD-blocks {x} j l rest h e (At.here {xs = xs}) =
+      let d : l ≡ j = omega (arith, mul-zero w) in
+      let g : j < length (block x) = omega (arith, wide x) in
+      rw (d, more, append-assoc) (List·getD-append (block x) (blocks xs ++ rest) 0 j g)
+  getD-blocks j l rest h e (At.later {y = y} {xs = xs} {i = k} a) =
+      let d : l ≡ length (block y) + (w * k + j) = omega (arith, wide y, mul-suc w k) in
+      rw (d, more, append-assoc) (getD-append-add (block y) (blocks xs ++ rest) (w * k + j) 0 ∙ getD-blocks j (w * k + j) rest h refl a)
+
 -- ---- the rows
+-- The eight bytes of a row.
+abbrev rowBytes : Row → List ℕ
+rowBytes row = familyBytes (row ∷ [])
+
+-- A row has eight bytes.
 pub length-familyBytes : (rows : List Row) → length (familyBytes rows) ≡ 8 * length rows
 unfolding familyBytes
-length-familyBytes [] = refl
-length-familyBytes (row ∷ rows) = omega (arith, length-familyBytes rows)
+length-familyBytes = length-blocks 8 rowBytes familyBytes (λ row. refl) refl (λ row rows. refl)
 
 -- Byte j of row k.
 pub getD-familyBytes : {row : Row} {rows : List Row} {k : ℕ} (j l : ℕ) (rest : List ℕ) → j < 8 → l ≡ 8 * k + j → At rows k row
-    → getD (familyBytes rows ++ rest) l 0 ≡ getD (familyBytes (row ∷ [])) j 0
+    → getD (familyBytes rows ++ rest) l 0 ≡ getD (rowBytes row) j 0
 unfolding familyBytes
-getD-familyBytes {row} j l rest h e (At.here {xs = rows}) =
-    let d : l ≡ j = omega arith in
-    ap (λ (x : ℕ). getD (familyBytes (row ∷ rows) ++ rest) x 0) d ∙ List·getD-append (familyBytes (row ∷ [])) (familyBytes rows ++ rest) 0 j h
-getD-familyBytes j l rest h e (At.later {y = other} {xs = rows} {i = k} a) =
-    let d : l ≡ 8 + (8 * k + j) = omega arith in
-    ap (λ (x : ℕ). getD (familyBytes (other ∷ rows) ++ rest) x 0) d
-    ∙ getD-append-add (familyBytes (other ∷ [])) (familyBytes rows ++ rest) (8 * k + j) 0
-    ∙ getD-familyBytes j (8 * k + j) rest h refl a
+getD-familyBytes = getD-blocks 8 rowBytes familyBytes (λ row. refl) refl (λ row rows. refl)
 
 module _ {row : Row} {rows : List Row} {k : ℕ} (lent : List ℕ) (a : At rows k row) where
-  row-byte : (j l : ℕ) → j < 8 → l ≡ 8 * k + j → byte (over (familyBytes rows) lent) l ≡ getD (familyBytes (row ∷ [])) j 0
+  row-byte : (j l : ℕ) → j < 8 → l ≡ 8 * k + j → byte (over (familyBytes rows) lent) l ≡ getD (rowBytes row) j 0
   unfolding over
   row-byte j l h e = getD-familyBytes j l (drop (length (familyBytes rows)) lent) h e a
 
@@ -75,26 +89,23 @@ module _ {row : Row} {rows : List Row} {k : ℕ} (lent : List ℕ) (a : At rows 
   last-byte-row = row-byte 7 (8 * k + 7) (omega arith) refl
 
 -- ---- the class rows
+-- The five bytes of a class row.
+abbrev classRowBytes : ClassRow → List ℕ
+classRowBytes row = classBytes (row ∷ [])
+
+-- A class row has five bytes.
 pub length-classBytes : (rows : List ClassRow) → length (classBytes rows) ≡ 5 * length rows
 unfolding classBytes
-length-classBytes [] = refl
-length-classBytes (row ∷ rows) = omega (arith, length-classBytes rows)
+length-classBytes = length-blocks 5 classRowBytes classBytes (λ row. refl) refl (λ row rows. refl)
 
 -- Byte j of class row g.
 pub getD-classBytes : {row : ClassRow} {rows : List ClassRow} {g : ℕ} (j l : ℕ) (rest : List ℕ) → j < 5 → l ≡ 5 * g + j → At rows g row
-    → getD (classBytes rows ++ rest) l 0 ≡ getD (classBytes (row ∷ [])) j 0
+    → getD (classBytes rows ++ rest) l 0 ≡ getD (classRowBytes row) j 0
 unfolding classBytes
-getD-classBytes {row} j l rest h e (At.here {xs = rows}) =
-    let d : l ≡ j = omega arith in
-    ap (λ (x : ℕ). getD (classBytes (row ∷ rows) ++ rest) x 0) d ∙ List·getD-append (classBytes (row ∷ [])) (classBytes rows ++ rest) 0 j h
-getD-classBytes j l rest h e (At.later {y = other} {xs = rows} {i = g} a) =
-    let d : l ≡ 5 + (5 * g + j) = omega arith in
-    ap (λ (x : ℕ). getD (classBytes (other ∷ rows) ++ rest) x 0) d
-    ∙ getD-append-add (classBytes (other ∷ [])) (classBytes rows ++ rest) (5 * g + j) 0
-    ∙ getD-classBytes j (5 * g + j) rest h refl a
+getD-classBytes = getD-blocks 5 classRowBytes classBytes (λ row. refl) refl (λ row rows. refl)
 
 module _ {row : ClassRow} {rows : List ClassRow} {g : ℕ} (lent : List ℕ) (a : At rows g row) where
-  class-byte : (j l : ℕ) → j < 5 → l ≡ 5 * g + j → byte (over (classBytes rows) lent) l ≡ getD (classBytes (row ∷ [])) j 0
+  class-byte : (j l : ℕ) → j < 5 → l ≡ 5 * g + j → byte (over (classBytes rows) lent) l ≡ getD (classRowBytes row) j 0
   unfolding over
   class-byte j l h e = getD-classBytes j l (drop (length (classBytes rows)) lent) h e a
 
