@@ -1,4 +1,5 @@
 -- The demands of the project, proved about the claim of a call.
 pub mod Unique
 pub mod Places
+pub mod Reported
 pub mod Demand1
