@@ -1,15 +1,14 @@
 -- Places in lists: what stands at a place of the rows is what the bytes at that place of the left buffer say.
-use mathlib.Core.Path.{_≡_, refl, sym, _∙_, ap, ap₂, subst}
+use mathlib.Core.Path.{_≡_, refl, sym, _∙_, ap₂}
 use mathlib.Core.List.{List, [], _∷_, _++_, append-assoc}
-use Prim.Native.Nat.{ℕ, zero, suc, _+_, _*_, _/_, _%_, _<_, _≤_}
+use Prim.Native.Nat.{ℕ, zero, suc, _+_, _*_, _<_, _≤_}
 use native.Mathlib.Omega.{arith}
 use native.Mathlib.Nat.{div-add-mod', mul-zero, mul-suc}
 use lib.ListN.{length, getD, drop, length-append, length-drop, List·getD-append}
 use lib.Seq.{getD-append-add, drop-append-seam}
 use Rattle.spans.specs.Elements.{_∈_}
-use Rattle.cycles.specs.Family.{Family}
 use Rattle.cycles.specs.Rows.{Row, ClassRow, At}
-use Rattle.answers.specs.Answered.{familyBytes, classBytes, over, sizeOf}
+use Rattle.answers.specs.Answered.{familyBytes, classBytes, over}
 use Rattle.answers.specs.Bytes.{byte, familyAt, markAt, classAt, longAt, rankAt, familiesAt, essentialAt}
 
 module _ {X : Type 0} where

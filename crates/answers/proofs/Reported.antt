@@ -1,5 +1,5 @@
 -- A full answer and its right report, and what the bytes of each row say of it.
-use mathlib.Core.Path.{_≡_, refl, _∙_, ap, subst}
+use mathlib.Core.Path.{_≡_, refl, sym, _∙_, ap, subst}
 use mathlib.Core.List.{List}
 use Prim.Native.Nat.{ℕ, _<_, _≤_}
 use native.Mathlib.Omega.{arith}
@@ -9,7 +9,7 @@ use Rattle.cycles.specs.Compound.{Compound, Sound}
 use Rattle.cycles.specs.Family.{Family, Member, Kept}
 use Rattle.cycles.specs.Rows.{Row, Report, At}
 use Rattle.cycles.specs.Refusal.{Accepted}
-use Rattle.cycles.proofs.Ranks.{in-map}
+use Rattle.cycles.proofs.Ranks.{in-map, class-rows-length}
 use Rattle.cycles.proofs.Refusals.{accepted-sound}
 use Rattle.answers.specs.Answered.{full, familyBytes, classBytes, over, sizeOf, familyRoom, classRoom, RightReport, Answered}
 use Rattle.answers.specs.Bytes.{familyAt, markAt, classAt, MemberAt}
@@ -53,8 +53,7 @@ reported (Answered.in-full {R = R} a r h l m) =
     }
 
 -- Row k of the report, as the buffer has it.
-pub record RowAt (rows : List Row) (left : List ℕ) (k : ℕ) : Type 0 where
-  pub row : Row
+pub record RowAt (rows : List Row) (left : List ℕ) (k : ℕ) (row : Row) : Type 0 where
   pub at : At rows k row
   pub family : familyAt left k ≡ row .family
   pub mark : markAt left k ≡ row .mark
@@ -73,11 +72,14 @@ module _ {n : ℕ} {bonds rows classRows : List ℕ} {i cyclomatic families clas
   pub families-length : families ≡ length (s .R .rows)
   families-length = s .families-are ∙ s .right .families-are
 
+  -- A class row for each class.
+  pub classes-length : classes ≡ length (s .R .classRows)
+  classes-length = s .classes-are ∙ sym (class-rows-length c sound (λ a. a) (λ a b h l e. e) (s .right))
+
   -- What the buffer has at the place of a row.
-  pub row-there : {k : ℕ} {row : Row} → At (s .R .rows) k row → RowAt (s .R .rows) left k
+  pub row-there : {k : ℕ} {row : Row} → At (s .R .rows) k row → RowAt (s .R .rows) left k row
   row-there {k} {row} a =
       record {
-        row = row;
         at = a;
         family = ap (λ (l : List ℕ). familyAt l k) (s .left-is) ∙ familyAt-row rows a;
         mark = ap (λ (l : List ℕ). markAt l k) (s .left-is) ∙ markAt-row rows a;
@@ -85,13 +87,13 @@ module _ {n : ℕ} {bonds rows classRows : List ℕ} {i cyclomatic families clas
       }
 
   -- Each row below the number of families is there.
-  pub row-at : (k : ℕ) → k < families → RowAt (s .R .rows) left k
-  row-at k h = let (row, a) = at-exists (s .R .rows) k (omega (arith, families-length)) in row-there a
+  pub row-at : (k : ℕ) → k < families → (row : Row) × RowAt (s .R .rows) left k row
+  row-at k h = let (row, a) = at-exists (s .R .rows) k (omega (arith, families-length)) in (row, row-there a)
 
   -- The family of a row is kept.
   pub row-kept : {row : Row} → row ∈ s .R .rows → Kept c (λ a. a) (row .family)
   row-kept {row} l = s .right .kept (row .family) .0 (in-map (λ row. row .family) l)
 
   -- A member of the family that the bytes name is one of the family of the row.
-  pub row-member : {k C : ℕ} (t : RowAt (s .R .rows) left k) → MemberAt c left k C → Member c (λ a. a) (t .row .family) C
+  pub row-member : {k C : ℕ} {row : Row} → RowAt (s .R .rows) left k row → MemberAt c left k C → Member c (λ a. a) (row .family) C
   row-member {C} t m = subst (λ (f : Family). Member c (λ a. a) f C) (t .family) m

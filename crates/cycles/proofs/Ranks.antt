@@ -136,6 +136,11 @@ class-rows-at rows base (f ∷ fs) i At.here e = (f, At.here, ap (λ (l : ℕ). 
 class-rows-at rows base (f ∷ fs) i (At.later a) e =
     let (g, b, d) = class-rows-at rows (suc base) fs i a (omega arith) in (g, At.later b, d)
 
+length-class-rows : (rows : List Row) (base : ℕ) (fs : List Family) → length (classRows rows base fs) ≡ length fs
+unfolding classRows
+length-class-rows rows base [] = refl
+length-class-rows rows base (f ∷ fs) = ap suc (length-class-rows rows (suc base) fs)
+
 at-class-rows : (rows : List Row) (base : ℕ) {fs : List Family} {j : ℕ} {g : Family} → At fs j g → (t : ClassRow) × At (classRows rows base fs) j t
 unfolding classRows
 at-class-rows rows base (At.here {x = f}) = (classRow rows base f, At.here)
@@ -359,6 +364,10 @@ module _ (c : Compound) (sound : Sound c) (rank : ℕ → ℕ) where
     -- Each row has the row of its class.
     pub class-row-exists : {u : Row} → u ∈ R .rows → (t : ClassRow) × At (R .classRows) (u .class) t
     class-row-exists l = rw (right .classRows-are) (at-class-rows (R .rows) 0 (first-of l .listed))
+
+    -- There are as many class rows as classes.
+    pub class-rows-length : length (R .classRows) ≡ R .classes
+    class-rows-length = ap length (right .classRows-are) ∙ length-class-rows (R .rows) 0 (right .firsts) ∙ sym (right .classes-are)
 
     module _ {g : ℕ} {t : ClassRow} (a : At (R .classRows) g t) where
       class-row-is : (f : Family) × At (right .firsts) g f × (t ≡ classRow (R .rows) g f)
