@@ -5,3 +5,4 @@ pub mod Places
 pub mod Reported
 pub mod Demand1
 pub mod Demand2
+pub mod Demand3

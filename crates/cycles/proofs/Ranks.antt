@@ -86,7 +86,8 @@ module _ {X : Type 0} where
     holding-sift (Sift.inn l s) f (Holding.out k h) = Holding.out k (holding-sift s f h)
     holding-sift (Sift.out {x = x} l s) f h = Holding.out (λ k. l (f x k)) (holding-sift s f h)
 
-  holding-iff : {K L : X → Type 0} {xs : List X} {n : ℕ} → ((x : X) → K x → L x) → ((x : X) → L x → K x) → Holding K xs n → Holding L xs n
+  -- As many have what is the same.
+  pub holding-iff : {K L : X → Type 0} {xs : List X} {n : ℕ} → ((x : X) → K x → L x) → ((x : X) → L x → K x) → Holding K xs n → Holding L xs n
   holding-iff f g Holding.none = Holding.none
   holding-iff f g (Holding.inn {x = x} k h) = Holding.inn (f x k) (holding-iff f g h)
   holding-iff f g (Holding.out {x = x} k h) = Holding.out (λ l. k (g x l)) (holding-iff f g h)
