@@ -6,12 +6,21 @@ use mathlib.Core.Logic.{_↔_}
 use Prim.Native.Nat.{ℕ, _≤_}
 use native.Mathlib.Omega.{arith}
 use Rattle.cycles.specs.Compound.{Compound}
+use Rattle.cycles.specs.Ring.{Relevant}
+use Rattle.cycles.specs.Family.{Kept}
+use Rattle.cycles.specs.Rows.{Report}
 use Rattle.cycles.specs.Refusal.{Refused}
+use Rattle.cycles.proofs.Refusals.{accepted-sound}
 use Rattle.answers.specs.Answered.{Told, full, refused, Answered}
-use Rattle.answers.specs.Cases.{Case1, Case2, Case3, Case4, Case5, Case6, Case7, Case8, Case9, AsLent}
+use Rattle.answers.specs.Cases.{Case1, Case2, Case3, Case4, Case5, Case6, Case7, Case8, Case9, Reports, AsLent}
+use Rattle.answers.specs.Bytes.{Exactly}
 use Rattle.answers.proofs.Unique.{answered-unique}
+use Rattle.answers.proofs.Counts.{right-families, right-rings}
 
 module _ (n : ℕ) (bonds rows classRows : List ℕ) (i : ℕ) where
+  abbrev c : Compound
+  c = record { n = n; bytes = bonds }
+
   abbrev Answers : Told → List ℕ → List ℕ → Type 0
   Answers = Answered n bonds rows classRows i
 
@@ -25,7 +34,7 @@ module _ (n : ℕ) (bonds rows classRows : List ℕ) (i : ℕ) where
   refused-writes-nothing (Answered.by-class-rows a r h l) = (refl, refl)
   refused-writes-nothing (Answered.by-rings a r h l m) = (refl, refl)
 
-  refused-input-number : {number place : ℕ} {c : Compound} → Refused c number place → (1 ≤ number) × (number ≤ 6)
+  refused-input-number : {number place : ℕ} → Refused c number place → (1 ≤ number) × (number ≤ 6)
   refused-input-number (Refused.atoms w) = (omega arith, omega arith)
   refused-input-number (Refused.bytes s w) = (omega arith, omega arith)
   refused-input-number (Refused.no-atom f h b w) = (omega arith, omega arith)
@@ -140,3 +149,13 @@ module _ (n : ℕ) (bonds rows classRows : List ℕ) (i : ℕ) where
     λ a. (refused-9-case a, refused-writes-nothing a),
     λ ((R, r, h, l, m, e), lent). moved (Answered.by-rings (r .accepted) (r .right) h l m) e lent,
   )
+
+  -- ---- what the table's numbers count
+  module _ {R : Report} (reports : Reports n bonds rows classRows i R) where
+    -- "Kept families": the number in refusal 7 is that of the kept families.
+    pub families-are-kept : Exactly (R .families) (Kept c (λ a. a))
+    families-are-kept = right-families c (accepted-sound c (reports .accepted)) (λ a. a) (λ a b h l e. e) (reports .right)
+
+    -- "Rings": the number in refusal 9 is that of the relevant rings.
+    pub rings-are-relevant : Exactly (R .rings) (Relevant c)
+    rings-are-relevant = right-rings c (accepted-sound c (reports .accepted)) (λ a. a) (λ a b h l e. e) (reports .right)

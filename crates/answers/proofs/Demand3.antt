@@ -4,7 +4,7 @@
 use mathlib.Core.Path.{_≡_, refl, sym, _∙_, ap, ap₂, subst, subst₂}
 use mathlib.Core.Bool.{Bool, cond}
 use mathlib.Core.List.{List, [], _∷_, _++_, append-assoc, append-nil}
-use mathlib.Core.Logic.{_↔_, inl}
+use mathlib.Core.Logic.{_↔_, _⊎_, inl, inr}
 use Prim.Native.Nat.{ℕ, zero, suc, _+_, _<_, _≤_}
 use native.Mathlib.Omega.{arith}
 use lib.Dec.{eqb}
@@ -15,19 +15,20 @@ use Rattle.spans.specs.Graded.{total}
 use Rattle.bondset.proofs.Group.{bondSets}
 use Rattle.bondset.proofs.Laws.{pos-of-ne}
 use Rattle.cycles.specs.Compound.{Compound, Sound}
-use Rattle.cycles.specs.Ring.{Closed, len}
+use Rattle.cycles.specs.Ring.{Closed, Ring, len}
 use Rattle.cycles.specs.Basis.{Basis, Minimum, Interchangeable}
 use Rattle.cycles.specs.Family.{Family, Prototype, Member}
 use Rattle.cycles.specs.Rows.{Row, ClassRow, At, howMany, Marks, SumOf}
-use Rattle.cycles.proofs.Families.{prototype-unique}
-use Rattle.cycles.proofs.Bases.{marked-minimum, marked-count}
+use Rattle.cycles.proofs.Families.{prototype-unique, prototype-member}
+use Rattle.cycles.proofs.Bases.{marked-minimum, marked-count, marked-none-no-ring, marked-total}
+use Rattle.cycles.proofs.Swaps.{interchangeable-sym, interchangeable-same-length, interchangeable-relevant}
 use Rattle.cycles.proofs.Ranks as Ranks
-use Rattle.cycles.proofs.Ranks.{at-element, at-below, same-class-iff, class-row-exists, relative-rank-in-every-minimum}
-use Rattle.answers.specs.Answered.{Told, full, Answered}
+use Rattle.cycles.proofs.Ranks.{at-element, at-below, same-class-iff, class-row-exists, class-row-of, relative-rank-in-every-minimum, holding-iff}
+use Rattle.answers.specs.Answered.{full, Answered}
 use Rattle.answers.specs.Bytes.{familyAt, markAt, classAt, longAt, rankAt, familiesAt, essentialAt, sumTo, rowsOf, MemberAt, OfClass, MarkedRows}
 use Rattle.answers.proofs.Places.{at-exists, element-at, longAt-row, rankAt-row, familiesAt-row, essentialAt-row}
-use Rattle.answers.proofs.Demand2.{sumTo-first, relevant-in-one-row}
-use Rattle.answers.proofs.Reported.{Reported, reported, RowAt, sound, families-length, classes-length, row-there, row-at, row-member}
+use Rattle.answers.proofs.Demand2.{sumTo-first, row-members-relevant, relevant-in-one-row}
+use Rattle.answers.proofs.Reported.{Reported, reported, sound, families-length, classes-length, row-there, row-at, row-kept, row-member}
 
 module _ (c : Compound) (left : List ℕ) where
   -- The rows say what the buffer has from row k on.
@@ -53,6 +54,16 @@ module _ (c : Compound) (left : List ℕ) where
   marked-rows-unique s (MarkedRows.marked e p m) (MarkedRows.unmarked d n) = absurd (omega arith)
   marked-rows-unique s (MarkedRows.unmarked e m) (MarkedRows.marked d q n) = absurd (omega arith)
   marked-rows-unique s (MarkedRows.unmarked e m) (MarkedRows.unmarked d n) = marked-rows-unique s m n
+
+  marked-rows-mark : {first count : ℕ} {B : List ℕ} (j k : ℕ) → j < count → k ≡ first + j → MarkedRows c left first count B
+      → (markAt left k ≡ 0) ⊎ (markAt left k ≡ 1)
+  marked-rows-mark j k h e MarkedRows.none = absurd (omega arith)
+  marked-rows-mark {first} zero k h e (MarkedRows.marked d p m) =
+      let l : first ≡ k = omega arith in inr (subst (λ (x : ℕ). markAt left x ≡ 1) l d)
+  marked-rows-mark {first} zero k h e (MarkedRows.unmarked d m) =
+      let l : first ≡ k = omega arith in inl (subst (λ (x : ℕ). markAt left x ≡ 0) l d)
+  marked-rows-mark (suc j) k h e (MarkedRows.marked d p m) = marked-rows-mark j k (omega arith) (omega arith) m
+  marked-rows-mark (suc j) k h e (MarkedRows.unmarked d m) = marked-rows-mark j k (omega arith) (omega arith) m
 
 howMany-sum : (test : Row → Bool) (rows : List Row) (f : ℕ → ℕ) → ((j : ℕ) (row : Row) → At rows j row → f j ≡ cond (test row) 1 0)
     → howMany test rows ≡ sumTo (length rows) f
@@ -110,6 +121,14 @@ module _ {n : ℕ} {bonds rows classRows : List ℕ} {i cyclomatic families clas
         let count = marked-count c (sound told) (λ a. a) (λ a b h l e. e) (told .right) (told .accepted .one-piece) some in
         ap length (sym basis-is) ∙ count ∙ sym (told .cyclomatic-is ∙ told .right .cyclomatic-is)
 
+    -- "An empty basis meets demand 3 only where the compound has no ring."
+    pub marked-rows-none-no-ring : {C : ℕ} → B ≡ [] → Ring c C → ⊥
+    marked-rows-none-no-ring e = marked-none-no-ring c (sound told) (λ a. a) (λ a b h l e. e) (told .right) (basis-is ∙ e)
+
+  -- The total answered is that of every minimum basis.
+  pub total-of-every-minimum : {B : List ℕ} → Minimum c B → whole ≡ total (len c) B
+  total-of-every-minimum b = told .total-is ∙ marked-total c (sound told) (λ a. a) (λ a b h l e. e) (told .right) b
+
   -- Each marked row has its prototype.
   pub marked-rows-exist : (B : List ℕ) × MarkedRows c left 0 families B
   marked-rows-exist = (told .right .basis, basis-rows)
@@ -165,3 +184,67 @@ module _ {n : ℕ} {bonds rows classRows : List ℕ} {i cyclomatic families clas
       let t = class-row-at o in
       subst (Holding (λ D. Interchangeable c D C) B) (sym (t .rank))
       (relative-rank-in-every-minimum c (sound told) (λ a. a) (λ a b h l e. e) (told .right) (t .listed) (t .member) (t .at) b)
+
+  module _ {g : ℕ} (h : g < classes) where
+    there : (t : ClassRow) × At (told .R .classRows) g t
+    there = at-exists (told .R .classRows) g (omega (arith, classes-length told))
+
+    -- Each class number below the number of classes is the class of a row.
+    pub class-has-row : (k : ℕ) × (k < families) × (classAt left k ≡ g)
+    class-has-row =
+        let (u, l, e) = class-row-of c (sound told) (λ a. a) (λ a b h l e. e) (told .right) (there .1) in
+        let (k, a) = element-at l in
+        (k, omega (arith, at-below a, families-length told), row-there told a .class ∙ e)
+
+    -- It has a ring.
+    pub class-has-ring : (C : ℕ) × OfClass c left families g C
+    class-has-ring =
+        let (k, l, e) = class-has-row in
+        let (u, t) = row-at told k l in
+        let p = row-kept told (at-element (t .at)) in
+        let m = prototype-member c (sound told) (λ a. a) (p .prototype) in
+        (p .ring, record { row = k; inside = l; class = e; member = subst (λ (f : Family). Member c (λ a. a) f (p .ring)) (sym (t .family)) m })
+
+    -- "Any minimum basis at all, from any engine, holds from each class exactly the relative rank we report."
+    pub class-row-rank : {B : List ℕ} → Minimum c B → Holding (OfClass c left families g) B (rankAt left′ g)
+    class-row-rank b =
+        let (C, o) = class-has-ring in
+        holding-iff
+        (λ D s.
+        let r = interchangeable-relevant c (sound told) (interchangeable-sym c s) (row-members-relevant answer (o .inside) (o .member)) in
+        let w = relevant-in-one-row answer r in
+        let e = class-byte-iff-interchangeable (w .inside) (o .inside) (w .member) (o .member) .1 (interchangeable-same-length c s, s) in
+        record { row = w .row; inside = w .inside; class = e ∙ o .class; member = w .member })
+        (λ D w. class-byte-iff-interchangeable (w .inside) (o .inside) (w .member) (o .member) .0 (w .class ∙ sym (o .class)) .1)
+        (class-row-rank-interchangeable o b)
+
+    -- "Number of families low byte, high byte": as many rows are of the class.
+    pub class-row-families : familiesAt left′ g ≡ rowsOf left families g
+    class-row-families =
+        let (t, a) = there in
+        let count =
+        howMany-sum (λ row. eqb (row .class) g) (told .R .rows) (λ k. cond (eqb (classAt left k) g) 1 0)
+        (λ j row b. ap (λ (k : ℕ). cond (eqb k g) 1 0) (row-there told b .class)) in
+        ap (λ (l : List ℕ). familiesAt l g) (told .left′-is) ∙ familiesAt-row classRows a
+        ∙ Ranks.class-row-families c (sound told) (λ a. a) (λ a b h l e. e) (told .right) a ∙ count
+        ∙ ap (λ (k : ℕ). rowsOf left k g) (sym (families-length told))
+
+    -- "A class with exactly one family is marked essential."
+    pub class-row-essential : essentialAt left′ g ≡ cond (eqb (familiesAt left′ g) 1) 1 0
+    class-row-essential =
+        let (t, a) = there in
+        let e = ap (λ (l : List ℕ). familiesAt l g) (told .left′-is) ∙ familiesAt-row classRows a in
+        ap (λ (l : List ℕ). essentialAt l g) (told .left′-is) ∙ essentialAt-row classRows a
+        ∙ Ranks.class-row-essential c (sound told) (λ a. a) (λ a b h l e. e) (told .right) a
+        ∙ ap (λ (k : ℕ). cond (eqb k 1) 1 0) (sym e)
+
+  -- The class of a row is below the number of classes.
+  pub class-byte-below : (k : ℕ) → k < families → classAt left k < classes
+  class-byte-below k h =
+      let (u, t) = row-at told k h in
+      let (s, a) = class-row-exists c (sound told) (λ a. a) (λ a b h l e. e) (told .right) (at-element (t .at)) in
+      omega (arith, t .class, at-below a, classes-length told)
+
+  -- "Basis mark 0 or 1"
+  pub mark-byte : (k : ℕ) → k < families → (markAt left k ≡ 0) ⊎ (markAt left k ≡ 1)
+  mark-byte k h = marked-rows-mark c left k k h (omega arith) basis-rows
