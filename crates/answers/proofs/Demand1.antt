@@ -13,9 +13,9 @@ use Rattle.cycles.specs.Refusal.{Refused}
 use Rattle.cycles.proofs.Refusals.{accepted-sound}
 use Rattle.answers.specs.Answered.{Told, full, refused, Answered}
 use Rattle.answers.specs.Cases.{Case1, Case2, Case3, Case4, Case5, Case6, Case7, Case8, Case9, Reports, AsLent}
-use Rattle.answers.specs.Bytes.{Exactly}
+use Rattle.answers.specs.Bytes.{Exactly, ClassCount}
 use Rattle.answers.proofs.Unique.{answered-unique}
-use Rattle.answers.proofs.Counts.{right-families, right-rings}
+use Rattle.answers.proofs.Counts.{right-families, right-classes, right-rings}
 
 module _ (n : ℕ) (bonds rows classRows : List ℕ) (i : ℕ) where
   abbrev c : Compound
@@ -155,6 +155,10 @@ module _ (n : ℕ) (bonds rows classRows : List ℕ) (i : ℕ) where
     -- "Kept families": the number in refusal 7 is that of the kept families.
     pub families-are-kept : Exactly (R .families) (Kept c (λ a. a))
     families-are-kept = right-families c (accepted-sound c (reports .accepted)) (λ a. a) (λ a b h l e. e) (reports .right)
+
+    -- "Classes": the number in refusal 8 is that of the classes of interchangeable relevant rings.
+    pub classes-are-of-rings : ClassCount c (R .classes)
+    classes-are-of-rings = right-classes c (accepted-sound c (reports .accepted)) (λ a. a) (λ a b h l e. e) (reports .right)
 
     -- "Rings": the number in refusal 9 is that of the relevant rings.
     pub rings-are-relevant : Exactly (R .rings) (Relevant c)

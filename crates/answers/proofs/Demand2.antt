@@ -15,9 +15,9 @@ use Rattle.cycles.proofs.Members.{member-family-unique}
 use Rattle.cycles.proofs.Bases.{ascending-rest}
 use Rattle.cycles.proofs.Ranks.{at-element, at-below, relevant-in-row}
 use Rattle.cycles.proofs.Unique.{ascending-fresh}
-use Rattle.answers.specs.Answered.{full, familyBytes, classBytes, over, sizeOf, Answered}
+use Rattle.answers.specs.Answered.{full, familyBytes, classBytes, sizeOf, Answered}
 use Rattle.answers.specs.Bytes.{byte, familyAt, sumTo, Exactly, SpareKept, MemberAt, InOneRow}
-use Rattle.answers.proofs.Places.{element-at, length-familyBytes, length-classBytes, length-over, drop-over, last-byte-row}
+use Rattle.answers.proofs.Places.{element-at, length-familyBytes, length-classBytes, spare-kept, last-byte-row, sumTo-first}
 use Rattle.answers.proofs.Counts.{right-families, right-rings}
 use Rattle.answers.proofs.Reported.{Reported, reported, sound, families-length, classes-length, row-there, row-at, row-kept, row-member}
 
@@ -44,12 +44,6 @@ sizeOf-past [] k h = refl
 sizeOf-past (row ∷ rows) zero h = absurd (omega arith)
 sizeOf-past (row ∷ rows) (suc k) h = sizeOf-past rows k (omega arith)
 
--- A sum's first summand, taken out.
-pub sumTo-first : (k : ℕ) (f : ℕ → ℕ) → sumTo (suc k) f ≡ f 0 + sumTo k (λ j. f (suc j))
-unfolding sumTo
-sumTo-first zero f = omega arith
-sumTo-first (suc k) f = omega (arith, sumTo-first k f)
-
 sizes-sum : (rows : List Row) → sizes rows ≡ sumTo (length rows) (sizeOf rows)
 unfolding sizes sizeOf sumTo
 sizes-sum [] = refl
@@ -62,10 +56,6 @@ module _ {n : ℕ} {bonds rows classRows : List ℕ} {i cyclomatic families clas
 
   told : Reported n bonds rows classRows i cyclomatic families classes total rings size left left′
   told = reported answer
-
-  spare-kept : (bytes lent : List ℕ) (width count : ℕ) → width * count ≡ length bytes → length bytes ≤ length lent
-      → SpareKept width count (over bytes lent) lent
-  spare-kept bytes lent width count e h = record { same-length = length-over bytes lent h; spare = drop-over bytes lent e }
 
   -- "Rows start at byte 0 of their buffer with no gaps; bytes after the last stay as they were."
   pub spare-bytes-kept : SpareKept 8 families left rows × SpareKept 5 classes left′ classRows

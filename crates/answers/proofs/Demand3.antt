@@ -25,9 +25,10 @@ use Rattle.cycles.proofs.Swaps.{interchangeable-sym, interchangeable-same-lengt
 use Rattle.cycles.proofs.Ranks as Ranks
 use Rattle.cycles.proofs.Ranks.{at-element, at-below, same-class-iff, class-row-exists, class-row-of, relative-rank-in-every-minimum, holding-iff}
 use Rattle.answers.specs.Answered.{full, Answered}
-use Rattle.answers.specs.Bytes.{familyAt, markAt, classAt, longAt, rankAt, familiesAt, essentialAt, sumTo, rowsOf, MemberAt, OfClass, MarkedRows}
-use Rattle.answers.proofs.Places.{at-exists, element-at, longAt-row, rankAt-row, familiesAt-row, essentialAt-row}
-use Rattle.answers.proofs.Demand2.{sumTo-first, row-members-relevant, relevant-in-one-row}
+use Rattle.answers.specs.Bytes.{familyAt, markAt, classAt, longAt, rankAt, familiesAt, essentialAt, sumTo, rowsOf, MemberAt, ClassCount, OfClass, MarkedRows}
+use Rattle.answers.proofs.Places.{at-exists, element-at, longAt-row, rankAt-row, familiesAt-row, essentialAt-row, sumTo-first}
+use Rattle.answers.proofs.Counts.{class-below, right-classes}
+use Rattle.answers.proofs.Demand2.{row-members-relevant, relevant-in-one-row}
 use Rattle.answers.proofs.Reported.{Reported, reported, sound, families-length, classes-length, row-there, row-at, row-kept, row-member}
 
 module _ (c : Compound) (left : List ℕ) where
@@ -186,13 +187,13 @@ module _ {n : ℕ} {bonds rows classRows : List ℕ} {i cyclomatic families clas
       (relative-rank-in-every-minimum c (sound told) (λ a. a) (λ a b h l e. e) (told .right) (t .listed) (t .member) (t .at) b)
 
   module _ {g : ℕ} (h : g < classes) where
-    there : (t : ClassRow) × At (told .R .classRows) g t
-    there = at-exists (told .R .classRows) g (omega (arith, classes-length told))
+    class-row-there : (t : ClassRow) × At (told .R .classRows) g t
+    class-row-there = at-exists (told .R .classRows) g (omega (arith, classes-length told))
 
     -- Each class number below the number of classes is the class of a row.
     pub class-has-row : (k : ℕ) × (k < families) × (classAt left k ≡ g)
     class-has-row =
-        let (u, l, e) = class-row-of c (sound told) (λ a. a) (λ a b h l e. e) (told .right) (there .1) in
+        let (u, l, e) = class-row-of c (sound told) (λ a. a) (λ a b h l e. e) (told .right) (class-row-there .1) in
         let (k, a) = element-at l in
         (k, omega (arith, at-below a, families-length told), row-there told a .class ∙ e)
 
@@ -221,7 +222,7 @@ module _ {n : ℕ} {bonds rows classRows : List ℕ} {i cyclomatic families clas
     -- "Number of families low byte, high byte": as many rows are of the class.
     pub class-row-families : familiesAt left′ g ≡ rowsOf left families g
     class-row-families =
-        let (t, a) = there in
+        let (t, a) = class-row-there in
         let count =
         howMany-sum (λ row. eqb (row .class) g) (told .R .rows) (λ k. cond (eqb (classAt left k) g) 1 0)
         (λ j row b. ap (λ (k : ℕ). cond (eqb k g) 1 0) (row-there told b .class)) in
@@ -232,7 +233,7 @@ module _ {n : ℕ} {bonds rows classRows : List ℕ} {i cyclomatic families clas
     -- "A class with exactly one family is marked essential."
     pub class-row-essential : essentialAt left′ g ≡ cond (eqb (familiesAt left′ g) 1) 1 0
     class-row-essential =
-        let (t, a) = there in
+        let (t, a) = class-row-there in
         let e = ap (λ (l : List ℕ). familiesAt l g) (told .left′-is) ∙ familiesAt-row classRows a in
         ap (λ (l : List ℕ). essentialAt l g) (told .left′-is) ∙ essentialAt-row classRows a
         ∙ Ranks.class-row-essential c (sound told) (λ a. a) (λ a b h l e. e) (told .right) a
@@ -242,8 +243,12 @@ module _ {n : ℕ} {bonds rows classRows : List ℕ} {i cyclomatic families clas
   pub class-byte-below : (k : ℕ) → k < families → classAt left k < classes
   class-byte-below k h =
       let (u, t) = row-at told k h in
-      let (s, a) = class-row-exists c (sound told) (λ a. a) (λ a b h l e. e) (told .right) (at-element (t .at)) in
-      omega (arith, t .class, at-below a, classes-length told)
+      let below = class-below c (sound told) (λ a. a) (λ a b h l e. e) (told .right) (at-element (t .at)) in
+      omega (arith, t .class, told .classes-are)
+
+  -- The classes answered are those of the relevant rings: as many.
+  pub classes-count : ClassCount c classes
+  classes-count = subst (ClassCount c) (sym (told .classes-are)) (right-classes c (sound told) (λ a. a) (λ a b h l e. e) (told .right))
 
   -- "Basis mark 0 or 1"
   pub mark-byte : (k : ℕ) → k < families → (markAt left k ≡ 0) ⊎ (markAt left k ≡ 1)

@@ -9,7 +9,7 @@ use lib.Seq.{getD-append-add, drop-append-seam}
 use Rattle.spans.specs.Elements.{_∈_}
 use Rattle.cycles.specs.Rows.{Row, ClassRow, At}
 use Rattle.answers.specs.Answered.{familyBytes, classBytes, over}
-use Rattle.answers.specs.Bytes.{byte, familyAt, markAt, classAt, longAt, rankAt, familiesAt, essentialAt}
+use Rattle.answers.specs.Bytes.{byte, familyAt, markAt, classAt, longAt, rankAt, familiesAt, essentialAt, sumTo, SpareKept}
 
 module _ {X : Type 0} where
   -- Below its length a list has something at each place.
@@ -132,12 +132,16 @@ module _ {row : ClassRow} {rows : List ClassRow} {g : ℕ} (lent : List ℕ) (a 
   essentialAt-row = class-byte 4 (5 * g + 4) (omega arith) refl
 
 -- ---- the spare bytes
--- Bytes that fit are written over, and as many remain.
-pub length-over : (bytes lent : List ℕ) → length bytes ≤ length lent → length (over bytes lent) ≡ length lent
+-- "Bytes after the last stay as they were", if the bytes written fit.
+pub spare-kept : (bytes lent : List ℕ) (width count : ℕ) → width * count ≡ length bytes → length bytes ≤ length lent
+    → SpareKept width count (over bytes lent) lent
 unfolding over
-length-over bytes lent h = simp (length-append, length-drop) (omega arith)
+spare-kept bytes lent width count e h =
+    record { same-length = simp (length-append, length-drop) (omega arith); spare = rw e (drop-append-seam bytes (drop (length bytes) lent)) }
 
--- "Bytes after the last stay as they were."
-pub drop-over : (bytes lent : List ℕ) {k : ℕ} → k ≡ length bytes → drop k (over bytes lent) ≡ drop k lent
-unfolding over
-drop-over bytes lent e = rw e (drop-append-seam bytes (drop (length bytes) lent))
+-- ---- sums over the rows
+-- A sum's first summand, taken out.
+pub sumTo-first : (k : ℕ) (f : ℕ → ℕ) → sumTo (suc k) f ≡ f 0 + sumTo k (λ j. f (suc j))
+unfolding sumTo
+sumTo-first zero f = omega arith
+sumTo-first (suc k) f = omega (arith, sumTo-first k f)

@@ -8,6 +8,8 @@ use lib.Dec.{eqb}
 use lib.ListN.{length, getD, drop}
 use Rattle.spans.specs.Elements.{_∈_, Once}
 use Rattle.cycles.specs.Compound.{Compound}
+use Rattle.cycles.specs.Ring.{Relevant}
+use Rattle.cycles.specs.Basis.{Interchangeable}
 use Rattle.cycles.specs.Family.{Family, Prototype, Member}
 
 -- Byte k of a buffer.
@@ -68,6 +70,14 @@ module _ (c : Compound) where
   -- The ranking by number, of which the claim speaks.
   abbrev pub MemberAt : List ℕ → ℕ → ℕ → Type 0
   MemberAt left k C = Member c (λ a. a) (familyAt left k) C
+
+  -- The relevant rings are in exactly k classes: one ring stands for each, no two of these are interchangeable, and every relevant ring is
+  -- interchangeable with one of them.
+  pub record ClassCount (k : ℕ) : Type 0 where
+    pub ring : (g : ℕ) → g < k → ℕ
+    pub relevant : (g : ℕ) (h : g < k) → Relevant c (ring g h)
+    pub apart : (g j : ℕ) (h : g < k) (l : j < k) → Interchangeable c (ring g h) (ring j l) → g ≡ j
+    pub all : (C : ℕ) → Relevant c C → (g : ℕ) × (h : g < k) × Interchangeable c C (ring g h)
 
   -- C is a member of the family of exactly one row of so many.
   pub record InOneRow (left : List ℕ) (families C : ℕ) : Type 0 where
