@@ -34,7 +34,8 @@ in-map f _∈_.first = _∈_.first
 in-map f (_∈_.later i) = _∈_.later (in-map f i)
 
 module _ {X : Type 0} where
-  all-each : {P : X → Type 0} (xs : List X) → ((x : X) → x ∈ xs → P x) → All P xs
+  -- What holds of each element holds of all.
+  pub all-each : {P : X → Type 0} (xs : List X) → ((x : X) → x ∈ xs → P x) → All P xs
   all-each [] f = All.nil
   all-each (x ∷ xs) f = All.cons (f x _∈_.first) (all-each xs (λ y i. f y (_∈_.later i)))
 
@@ -43,7 +44,7 @@ module _ {X : Type 0} where
   at-element At.here = _∈_.first
   at-element (At.later a) = _∈_.later (at-element a)
 
-  -- A place is below the length.
+  -- A place of the list is below its length.
   pub at-below : {xs : List X} {i : ℕ} {x : X} → At xs i x → i < length xs
   at-below At.here = omega arith
   at-below (At.later a) = omega (arith, at-below a)
@@ -52,11 +53,11 @@ module _ {X : Type 0} where
   at-unique At.here At.here = refl
   at-unique (At.later a) (At.later b) = at-unique a b
 
-  at-append : {xs : List X} {i : ℕ} {x : X} (ys : List X) → At xs i x → At (xs ++ ys) i x
+  pub at-append : {xs : List X} {i : ℕ} {x : X} (ys : List X) → At xs i x → At (xs ++ ys) i x
   at-append ys At.here = At.here
   at-append ys (At.later a) = At.later (at-append ys a)
 
-  at-end : (xs : List X) (x : X) → At (xs ++ (x ∷ [])) (length xs) x
+  pub at-end : (xs : List X) (x : X) → At (xs ++ (x ∷ [])) (length xs) x
   at-end [] x = At.here
   at-end (y ∷ xs) x = At.later (at-end xs x)
 

@@ -23,7 +23,8 @@ less-differ : {xs ys : List ℕ} → Less xs ys → xs ≡ ys → ⊥
 less-differ (Less.here {a = a} {b = b} h) e = let d : a ≡ b = cc in omega arith
 less-differ (Less.later l) e = less-differ l (cc)
 
-less-trans : {xs ys zs : List ℕ} → Less xs ys → Less ys zs → Less xs zs
+-- Keys that come one after the other are in order.
+pub less-trans : {xs ys zs : List ℕ} → Less xs ys → Less ys zs → Less xs zs
 less-trans (Less.here {a = x} h) (Less.here {b = z} l) = let d : x < z = omega arith in Less.here d
 less-trans (Less.here h) (Less.later l) = Less.here h
 less-trans (Less.later h) (Less.here l) = Less.here l

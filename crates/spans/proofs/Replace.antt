@@ -31,7 +31,8 @@ module _ {X : Type 0} (ℓ : X → ℕ) where
       go (yes p) = refl
       go (no n) = absurd (n e)
 
-  total-append : (xs ys : List X) → total ℓ (xs ++ ys) ≡ total ℓ xs + total ℓ ys
+  -- The total length of two lists.
+  pub total-append : (xs ys : List X) → total ℓ (xs ++ ys) ≡ total ℓ xs + total ℓ ys
   unfolding total
   total-append [] ys = omega arith
   total-append (x ∷ xs) ys = omega (arith, total-append xs ys)

@@ -1,0 +1,9 @@
+pub mod Fold
+pub mod Net
+pub mod Layer
+pub mod State
+pub mod Loops
+pub mod Run
+pub mod Fault
+pub mod Bench
+pub mod FaultBench
