@@ -20,3 +20,4 @@ pub mod Bases
 pub mod Swaps
 pub mod Ranks
 pub mod Unique
+pub mod Refusals

@@ -100,7 +100,8 @@ module _ (c : Compound) where
       to (Joins.given h e f) = (h, inl (e, f))
       to (Joins.turned h e f) = (h, inr (e, f))
 
-  joins-below : {k a b : ℕ} → Joins c k a b → k < m c
+  -- What joins atoms is a bond of the compound.
+  pub joins-below : {k a b : ℕ} → Joins c k a b → k < m c
   joins-below (Joins.given h e f) = h
   joins-below (Joins.turned h e f) = h
 

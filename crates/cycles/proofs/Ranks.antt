@@ -1,6 +1,6 @@
 -- Classes and relative ranks: what a class number and a relative rank say of rings and of every minimum basis (C2 and C3).
 use mathlib.Core.Path.{_≡_, refl, sym, _∙_, ap, subst}
-use mathlib.Core.Bool.{Bool, true, false, _&&_}
+use mathlib.Core.Bool.{Bool, true, false, cond, _&&_}
 use mathlib.Core.List.{List, [], _∷_, _++_, map}
 use mathlib.Core.Logic.{_↔_, _⊎_, inl, inr}
 use Prim.Native.Nat.{ℕ, suc, _+_, _<_}
@@ -28,7 +28,8 @@ use Rattle.cycles.proofs.Bases.{no-sum-relevant, relevant-dec, prototyp
 use Rattle.cycles.proofs.Swaps.{interchangeable-sym, interchangeable-same-length, interchangeable-relevant, interchangeable-trans}
 use Rattle.cycles.proofs.Swaps.{swap-interchangeable, minimum-lower, family-interchangeable}
 
-in-map : {X Y : Type 0} (f : X → Y) {x : X} {xs : List X} → x ∈ xs → f x ∈ map f xs
+-- The image of an element is an element of the images.
+pub in-map : {X Y : Type 0} (f : X → Y) {x : X} {xs : List X} → x ∈ xs → f x ∈ map f xs
 in-map f _∈_.first = _∈_.first
 in-map f (_∈_.later i) = _∈_.later (in-map f i)
 
@@ -86,7 +87,8 @@ module _ {X : Type 0} where
     holding-sift (Sift.inn l s) f (Holding.out k h) = Holding.out k (holding-sift s f h)
     holding-sift (Sift.out {x = x} l s) f h = Holding.out (λ k. l (f x k)) (holding-sift s f h)
 
-  holding-iff : {K L : X → Type 0} {xs : List X} {n : ℕ} → ((x : X) → K x → L x) → ((x : X) → L x → K x) → Holding K xs n → Holding L xs n
+  -- As many have what is the same.
+  pub holding-iff : {K L : X → Type 0} {xs : List X} {n : ℕ} → ((x : X) → K x → L x) → ((x : X) → L x → K x) → Holding K xs n → Holding L xs n
   holding-iff f g Holding.none = Holding.none
   holding-iff f g (Holding.inn {x = x} k h) = Holding.inn (f x k) (holding-iff f g h)
   holding-iff f g (Holding.out {x = x} k h) = Holding.out (λ l. k (g x l)) (holding-iff f g h)
@@ -135,6 +137,11 @@ unfolding classRows
 class-rows-at rows base (f ∷ fs) i At.here e = (f, At.here, ap (λ (l : ℕ). classRow rows l f) (omega arith))
 class-rows-at rows base (f ∷ fs) i (At.later a) e =
     let (g, b, d) = class-rows-at rows (suc base) fs i a (omega arith) in (g, At.later b, d)
+
+length-class-rows : (rows : List Row) (base : ℕ) (fs : List Family) → length (classRows rows base fs) ≡ length fs
+unfolding classRows
+length-class-rows rows base [] = refl
+length-class-rows rows base (f ∷ fs) = ap suc (length-class-rows rows (suc base) fs)
 
 at-class-rows : (rows : List Row) (base : ℕ) {fs : List Family} {j : ℕ} {g : Family} → At fs j g → (t : ClassRow) × At (classRows rows base fs) j t
 unfolding classRows
@@ -360,15 +367,40 @@ module _ (c : Compound) (sound : Sound c) (rank : ℕ → ℕ) where
     pub class-row-exists : {u : Row} → u ∈ R .rows → (t : ClassRow) × At (R .classRows) (u .class) t
     class-row-exists l = rw (right .classRows-are) (at-class-rows (R .rows) 0 (first-of l .listed))
 
-    module _ {C : ℕ} {u : Row} {t : ClassRow} (l : u ∈ R .rows) (m : Member c rank (u .family) C) (a : At (R .classRows) (u .class) t) where
-      class-row-first : (g : Family) × At (right .firsts) (u .class) g × (t ≡ classRow (R .rows) (u .class) g)
-      class-row-first = class-rows-at (R .rows) 0 (right .firsts) (u .class) (rw (right .classRows-are) at a) (omega arith)
+    -- There are as many class rows as classes.
+    pub class-rows-length : length (R .classRows) ≡ R .classes
+    class-rows-length = ap length (right .classRows-are) ∙ length-class-rows (R .rows) 0 (right .firsts) ∙ sym (right .classes-are)
 
+    module _ {g : ℕ} {t : ClassRow} (a : At (R .classRows) g t) where
+      class-row-is : (f : Family) × At (right .firsts) g f × (t ≡ classRow (R .rows) g f)
+      class-row-is = class-rows-at (R .rows) 0 (right .firsts) g (rw (right .classRows-are) at a) (omega arith)
+
+      -- Each class has a row.
+      pub class-row-of : (u : Row) × (u ∈ R .rows) × (u .class ≡ g)
+      class-row-of =
+          let (f, b, e) = class-row-is in
+          let k = first-kept b in
+          let w = member-in-row c rank (R .rows) (right .kept f .1 k) (prototype-member c sound rank (k .prototype)) in
+          (w .row, w .listed, class-like (w .listed) (w .member) b (k .prototype) .0 (Interchangeable.same refl))
+
+      -- The row of a class counts the rows that are of it.
+      pub class-row-families : t .families ≡ howMany (λ row. eqb (row .class) g) (R .rows)
+      unfolding classRow
+      class-row-families = let (f, b, e) = class-row-is in ap (λ (s : ClassRow). s .families) e
+
+      -- "A class with exactly one family is marked essential."
+      pub class-row-essential : t .essential ≡ cond (eqb (t .families) 1) 1 0
+      unfolding classRow
+      class-row-essential =
+          let (f, b, e) = class-row-is in
+          ap (λ (s : ClassRow). s .essential) e ∙ sym (ap (λ (s : ClassRow). cond (eqb (s .families) 1) 1 0) e)
+
+    module _ {C : ℕ} {u : Row} {t : ClassRow} (l : u ∈ R .rows) (m : Member c rank (u .family) C) (a : At (R .classRows) (u .class) t) where
       -- The row of the class of C says how long C is.
       pub class-row-long : t .long ≡ len c C
       unfolding classRow
       class-row-long =
-          let (g, f, e) = class-row-first in
+          let (g, f, e) = class-row-is a in
           let p = first-kept f .prototype in
           ap (λ (s : ClassRow). s .long) e ∙ sym (interchangeable-same-length c (class-like l m f p .1 refl) ∙ prototype-long c sound rank p)
 
@@ -376,7 +408,7 @@ module _ (c : Compound) (sound : Sound c) (rank : ℕ → ℕ) where
       -- row of the class of C says.
       pub relative-rank-in-every-minimum : {B : List ℕ} → Minimum c B → Holding (λ D. Interchangeable c D C) B (t .rank)
       relative-rank-in-every-minimum {B} b =
-          let (g, f, e) = class-row-first in
+          let (g, f, e) = class-row-is a in
           let p = first-kept f .prototype in
           let s = class-like l m f p .1 refl in
           subst (λ (r : ClassRow). Holding (λ D. Interchangeable c D C) B (r .rank)) (sym e)

@@ -34,7 +34,8 @@ ascending-less : {f : Family} {fs : List Family} → Ascending (f ∷ fs) → Al
 ascending-less Ascending.one = All.nil
 ascending-less (Ascending.more l a) = All.cons l (all-map (λ g h. less-trans l h) (ascending-less a))
 
-ascending-fresh : {f : Family} {fs : List Family} → Ascending (f ∷ fs) → f ∈ fs → ⊥
+-- In an ascending list the first stands nowhere else.
+pub ascending-fresh : {f : Family} {fs : List Family} → Ascending (f ∷ fs) → f ∈ fs → ⊥
 ascending-fresh a i = less-differ (all-element (ascending-less a) i) refl
 
 ascending-head : {f g : Family} {fs gs : List Family} → Ascending (f ∷ fs) → Ascending (g ∷ gs) → f ∈ (g ∷ gs) → g ∈ (f ∷ fs) → f ≡ g
