@@ -7,40 +7,12 @@ use native.Mathlib.Omega.{arith}
 use lib.Dec.{eqb, ltb, leb}
 use lib.ListN.{length}
 use Rattle.bondset.proofs.Laws.{lt-or-ge, pos-of-ne}
-use Rattle.cycles.specs.Compound.{Compound, m, one, other, Joins, Sound, OnePiece}
-use Rattle.cycles.specs.Refusal.{WrongAtoms, WrongBytes, NoAtom, Loop, SamePair, Again, Fine, Fits, FineBelow, Refused, Accepted}
+use Rattle.cycles.specs.Compound.{Compound, m, one, other, OnePiece}
+use Rattle.cycles.specs.Refusal.{WrongAtoms, WrongBytes, NoAtom, Loop, Again, Fine, Fits, FineBelow, Refused, Accepted}
+use Rattle.cycles.proofs.Refusals.{fine-sound}
 use Rattle.model.specs.Fault.{Fault, none, fault, orElse, when, firstOf, someBelow, samePair, bondFault, reached, pieceFault, sizeFault, firstFault}
 use Rattle.model.proofs.FaultsTests.{Tells, tells-true, tells-false, tells-dec, tells-same, not-tells, or-tells, and-tells, eqb-tells, ltb-tells, leb-tells, some-tells}
-use Rattle.model.proofs.NetNear.{joins-lt}
 use Rattle.model.proofs.FaultsReach.{reached-all}
-
--- ---- fine bonds
-
-module _ (c : Compound) where
-  joins-named : {k a b : ℕ} → (NoAtom c k → ⊥) → Joins c k a b → a < c .n
-  joins-named {k} {a} named (Joins.given h e f) = elim (lt-or-ge a (c .n)) [ inl l ↦ l | inr l ↦ absurd (named (inl (rw e l))) ]
-  joins-named {k} {a} named (Joins.turned h e f) = elim (lt-or-ge a (c .n)) [ inl l ↦ l | inr l ↦ absurd (named (inr (rw e l))) ]
-
-  joins-loop : {k a : ℕ} → Joins c k a a → Loop c k
-  joins-loop (Joins.given h e f) = e ∙ sym f
-  joins-loop (Joins.turned h e f) = f ∙ sym e
-
-  joins-pair : {j k a b : ℕ} → Joins c j a b → Joins c k a b → SamePair c j k
-  joins-pair (Joins.given h e f) (Joins.given h′ e′ f′) = inl (e ∙ sym e′, f ∙ sym f′)
-  joins-pair (Joins.given h e f) (Joins.turned h′ e′ f′) = inr (e ∙ sym e′, f ∙ sym f′)
-  joins-pair (Joins.turned h e f) (Joins.given h′ e′ f′) = inr (f ∙ sym f′, e ∙ sym e′)
-  joins-pair (Joins.turned h e f) (Joins.turned h′ e′ f′) = inl (f ∙ sym f′, e ∙ sym e′)
-
--- Fine bonds make a sound compound.
-pub fine-sound : (c : Compound) → FineBelow c (m c) → Sound c
-fine-sound c fine = record {
-  named = λ k a b joins. joins-named c (fine k (joins-lt joins) .atoms) joins;
-  no-loop = λ k a joins. fine k (joins-lt joins) .ends (joins-loop c joins);
-  once = λ j k a b joins joins′. elim (lt-or-ge j k) [
-    | inl l ↦ absurd (fine k (joins-lt joins′) .new (j, l, joins-pair c joins joins′))
-    | inr l ↦ elim (lt-or-ge k j) [ inl l′ ↦ absurd (fine j (joins-lt joins) .new (k, l′, joins-pair c joins′ joins)) | inr l′ ↦ omega arith ]
-  ];
-}
 
 -- ---- faults apart
 
@@ -222,10 +194,6 @@ module _ (c : Compound) where
 -- Every input is accepted or refused.
 pub refused-or-accepted : (c : Compound) → Accepted c ⊎ ((number : ℕ) × (place : ℕ) × Refused c number place)
 refused-or-accepted c = accepted-or-refused c (tells-dec (atoms-tells c)) (tells-dec (bytes-tells c))
-
--- An input is refused in one way at most.
-pub refused-unique : (c : Compound) {a b a′ b′ : ℕ} → Refused c a b → Refused c a′ b′ → (a ≡ a′) × (b ≡ b′)
-refused-unique c r s = let e = sym (refused-fault c r) ∙ refused-fault c s in (fault-number e, fault-place e)
 
 -- A refusal is given exactly in its case of the table.
 pub fault-refused : (c : Compound) (number place : ℕ) → (firstFault c ≡ fault number place) ↔ Refused c number place

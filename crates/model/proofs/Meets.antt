@@ -34,6 +34,7 @@ use Rattle.cycles.proofs.Dimension.{closed-basis, dimension-one-piece}
 use Rattle.cycles.proofs.Members.{relevant-in-family}
 use Rattle.cycles.proofs.MembersLists.{in-left, in-right, in-append}
 use Rattle.cycles.proofs.PathsDecide.{not-in-none}
+use Rattle.cycles.proofs.Refusals.{fine-sound}
 use Rattle.cycles.proofs.Ranks.{all-each}
 use Rattle.model.specs.Fold.{through, count}
 use Rattle.model.specs.Net.{netOf, preceding}
@@ -45,7 +46,6 @@ use Rattle.model.proofs.Items.{Try, Items, length-pass}
 use Rattle.model.proofs.TraceBases.{closed-few}
 use Rattle.model.proofs.Trace.{Event, Steps, Before, After, length-told, steps-marks}
 use Rattle.model.proofs.Numbers.{numbering, Numbered, classes-numbered}
-use Rattle.model.proofs.Faults.{fine-sound}
 use Rattle.model.proofs.MeetsRows.{ascending-part, ascending-append, marks-append, classes-append, classes-below, classRows-append, length-classRows, sizes-append}
 use Rattle.model.proofs.MeetsBounds.{kept-long, none-spans-three}
 use Rattle.model.proofs.MeetsEvents.{rowsOf, familiesOf, rows-families, rows-marks, rows-sizes, all-rows}

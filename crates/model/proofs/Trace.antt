@@ -31,6 +31,7 @@ use Rattle.cycles.specs.Family.{Family, Prototype, Kept}
 use Rattle.cycles.specs.Rows.{Row, Marks}
 use Rattle.cycles.proofs.Shorter.{Shorter}
 use Rattle.cycles.proofs.Bases.{shorter-short, relevant-no-sum, no-sum-relevant, kept-prototype-relevant}
+use Rattle.cycles.proofs.Ranks.{in-map}
 use Rattle.cycles.proofs.Families.{prototype-member, member-differ-shorter}
 use Rattle.model.specs.Fold.{through, count}
 use Rattle.model.specs.State.{State, marked as pushed, unmarked, joined, labelsIn, relabel}
@@ -118,10 +119,6 @@ cons-tail e = cc
 
 nil-not-cons : {A : Type 0} {x : A} {xs : List A} → x ∷ xs ≡ [] → ⊥
 nil-not-cons e = let z : _≡_ {A = ℕ} 0 1 = cc in omega arith
-
-in-map : {A B : Type 0} {x : A} {xs : List A} (f : A → B) → x ∈ xs → f x ∈ map f xs
-in-map f _∈_.first = _∈_.first
-in-map f (_∈_.later i) = _∈_.later (in-map f i)
 
 span-snoc : (S M : List ℕ) (w : ℕ) {v : ℕ} → Span bondSets (S ++ M) v → Span bondSets (S ++ (M ++ (w ∷ []))) v
 span-snoc S M w s = rw append-assoc at (left-of bondSets (w ∷ []) s)
