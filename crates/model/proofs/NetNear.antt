@@ -17,10 +17,11 @@ use Rattle.model.proofs.NetBits.{or-has, lt-of-has, without-has, add-or
 use Rattle.model.proofs.NetRead.{Near, adj-near}
 
 module _ (G : Net) where
-  abbrev gather : ℕ → ℕ → ℕ
+  -- An atom's neighbours come to those gathered.
+  abbrev pub gather : ℕ → ℕ → ℕ
   gather a acc = bitOr acc (nbrs G a)
 
-  gather-has : (L : List ℕ) (acc t : ℕ) → bit (through gather L acc) t ≡ 1 → (bit acc t ≡ 1) ⊎ ((a : ℕ) × (a ∈ L) × (bit (nbrs G a) t ≡ 1))
+  pub gather-has : (L : List ℕ) (acc t : ℕ) → bit (through gather L acc) t ≡ 1 → (bit acc t ≡ 1) ⊎ ((a : ℕ) × (a ∈ L) × (bit (nbrs G a) t ≡ 1))
   unfolding through
   gather-has [] acc t e = inl e
   gather-has (a ∷ L) acc t e =
@@ -28,17 +29,17 @@ module _ (G : Net) where
       (λ (n : bit (nbrs G a) t ≡ 1). inr (a, _∈_.first, n)) (or-has acc (nbrs G a) t .0 l))
       (λ (r : (b : ℕ) × (b ∈ L) × (bit (nbrs G b) t ≡ 1)). inr (r .0, _∈_.later (r .1), r .2)) (gather-has L (gather a acc) t e)
 
-  gather-keeps : (L : List ℕ) (acc t : ℕ) → bit acc t ≡ 1 → bit (through gather L acc) t ≡ 1
+  pub gather-keeps : (L : List ℕ) (acc t : ℕ) → bit acc t ≡ 1 → bit (through gather L acc) t ≡ 1
   unfolding through
   gather-keeps [] acc t e = e
   gather-keeps (a ∷ L) acc t e = gather-keeps L (gather a acc) t (or-has acc (nbrs G a) t .1 (inl e))
 
-  gather-takes : {L : List ℕ} (acc t a : ℕ) → a ∈ L → bit (nbrs G a) t ≡ 1 → bit (through gather L acc) t ≡ 1
+  pub gather-takes : {L : List ℕ} (acc t a : ℕ) → a ∈ L → bit (nbrs G a) t ≡ 1 → bit (through gather L acc) t ≡ 1
   unfolding through
   gather-takes acc t a (_∈_.first {xs}) e = gather-keeps xs (gather a acc) t (or-has acc (nbrs G a) t .1 (inr e))
   gather-takes acc t a (_∈_.later {y} h) e = gather-takes (gather y acc) t a h e
 
-  gather-small : (n : ℕ) → ((a : ℕ) → nbrs G a < 2 ^ n) → (L : List ℕ) (acc : ℕ) → acc < 2 ^ n → through gather L acc < 2 ^ n
+  pub gather-small : (n : ℕ) → ((a : ℕ) → nbrs G a < 2 ^ n) → (L : List ℕ) (acc : ℕ) → acc < 2 ^ n → through gather L acc < 2 ^ n
   unfolding through
   gather-small n small [] acc h = h
   gather-small n small (a ∷ L) acc h = gather-small n small L (gather a acc) (or-lt n acc (nbrs G a) h (small a))

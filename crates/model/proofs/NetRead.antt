@@ -25,11 +25,11 @@ unfolding through count
 through-count step P end more from zero s e p = let e′ : from ≡ end = omega arith in subst (λ (i : ℕ). P i s) e′ p
 through-count step P end more from (suc k) s e p = through-count step P end more (suc from) k (step from s) (omega arith) (more from s (omega arith) p)
 
--- so many zeros
-abbrev zeros : ℕ → List ℕ
+-- So many zeros.
+abbrev pub zeros : ℕ → List ℕ
 zeros n = replicate n 0
 
-getD-zeros : (n i : ℕ) → getD (zeros n) i 0 ≡ 0
+pub getD-zeros : (n i : ℕ) → getD (zeros n) i 0 ≡ 0
 getD-zeros n i =
     ⊎-elim (λ (h : i < n). getD-replicate {A = ℕ} n i 0 0 h)
     (λ (h : n ≤ i). List·getD-eq-default (zeros n) 0 (rw length-replicate h)) (lt-or-ge i n)

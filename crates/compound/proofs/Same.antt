@@ -1,0 +1,38 @@
+-- A search reads the neighbours alone, so what the functions promise of them holds of a whole net and of a compound.
+use mathlib.Core.Path.{_≡_, refl, ap}
+use mathlib.Core.List.{List}
+use Prim.Native.Nat.{ℕ, zero, suc}
+use Rattle.cycles.specs.Compound.{Compound, m}
+use Rattle.model.specs.Fold.{through, count}
+use Rattle.model.specs.Net.{Net, near, adjOf, netOf}
+use Rattle.model.specs.Layer.{Wave, spread, wave, layer, layersInto}
+use Rattle.model.specs.Loops.{topStep, tops}
+use Rattle.model.specs.Fault.{reached}
+use Rattle.compound.specs.Nets.{atoms, neighbours}
+
+module _ (G : Net) where
+  pub near-same : (s : ℕ) → near (neighbours (G .adj)) s ≡ near G s
+  unfolding near
+  near-same s = refl
+
+  pub wave-same : (pre r d : ℕ) → wave (neighbours (G .adj)) pre r d ≡ wave G pre r d
+  unfolding wave spread near
+  wave-same pre r zero = refl
+  wave-same pre r (suc d) = ap (spread G pre) (wave-same pre r d)
+
+  pub layer-same : (pre r d : ℕ) → layer (neighbours (G .adj)) pre r d ≡ layer G pre r d
+  unfolding layer
+  layer-same pre r d = ap (λ (w : Wave). w .under) (wave-same pre r d)
+
+  pub layersInto-same : (pre r depth : ℕ) (us : List ℕ) → layersInto (neighbours (G .adj)) pre r depth us ≡ layersInto G pre r depth us
+  unfolding layersInto
+  layersInto-same pre r depth us = simp (layer-same pre r)
+
+  pub tops-same : (pre : ℕ → ℕ) → tops (atoms (G .n) (G .adj)) pre ≡ tops G pre
+  unfolding tops topStep
+  tops-same pre = refl
+
+-- The atoms that `in_one_piece` compares with all are those that the model reaches.
+pub reached-same : (c : Compound) → (wave (neighbours (adjOf c (m c))) 0 0 (c .n)) .seen ≡ reached c
+unfolding reached netOf
+reached-same c = ap (λ (w : Wave). w .seen) (wave-same (netOf c) 0 0 (c .n))

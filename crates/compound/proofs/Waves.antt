@@ -1,0 +1,48 @@
+-- Sets seen on the way, and searches that have come to their end.
+use mathlib.Core.Path.{_≡_, refl, sym, ap, _∙_}
+use mathlib.Core.Logic.{⊎-elim}
+use Prim.Native.Nat.{ℕ, zero, suc, _+_, _-_, _^_, _≤_, _<_}
+use native.Mathlib.Omega.{arith}
+use lib.Bits.{bitAnd, bitOr, and-lt, or-disjoint}
+use Rattle.bondset.proofs.Laws.{lt-or-ge}
+use Rattle.bondset.proofs.Members.{members-zero}
+use Rattle.model.specs.Fold.{through}
+use Rattle.model.specs.Net.{Net, near}
+use Rattle.model.specs.Layer.{Wave, spread, wave}
+use Rattle.model.proofs.NetBits.{and-has, without-has, zero-of-none}
+
+-- What x adds to a set s is apart from it.
+pub and-without : (s x : ℕ) → s < 2 ^ 64 → x < 2 ^ 64 → bitAnd s (x - bitAnd x s) ≡ 0
+and-without s x hs hx =
+    zero-of-none 64 (bitAnd s (x - bitAnd x s)) (and-lt 64 s (x - bitAnd x s) hs (omega arith))
+    (λ k e. let both = and-has s (x - bitAnd x s) k .0 e in without-has 64 x s k hx .0 (both .1) .1 (both .0))
+
+-- So the union is the sum.
+pub or-without : (s x : ℕ) → s < 2 ^ 64 → x < 2 ^ 64 → bitOr s (x - bitAnd x s) ≡ s + (x - bitAnd x s)
+or-without s x hs hx = or-disjoint s (x - bitAnd x s) (and-without s x hs hx)
+
+pub near-none : (G : Net) → near G 0 ≡ 0
+unfolding near through
+near-none G = rw (members-zero 64)
+
+module _ (G : Net) (pre r : ℕ) where
+  -- An empty front has nothing beyond it.
+  record Done (seen : ℕ) (w : Wave) : Type 0 where
+    same : w .seen ≡ seen
+    none : w .front ≡ 0
+
+  done-next : (seen : ℕ) (w : Wave) → Done seen w → Done seen (spread G pre w)
+  unfolding spread
+  done-next seen w done =
+      let z : near G (w .front) ≡ 0 = ap (near G) (done .none) ∙ near-none G in
+      record { same = omega (arith, done .same, z); none = omega (arith, z) }
+
+  done-all : (d n : ℕ) → d ≤ n → (wave G pre r d) .front ≡ 0 → Done ((wave G pre r d) .seen) (wave G pre r n)
+  unfolding wave
+  done-all d zero h e = let z : d ≡ 0 = omega arith in rw z (record { same = refl; none = rw z at e })
+  done-all d (suc n) h e =
+      ⊎-elim (λ (l : d < suc n). done-next _ (wave G pre r n) (done-all d n (omega arith) e))
+      (λ (l : suc n ≤ d). let z : d ≡ suc n = omega arith in rw z (record { same = refl; none = rw z at e })) (lt-or-ge d (suc n))
+
+  pub seen-done : (d n : ℕ) → d ≤ n → (wave G pre r d) .front ≡ 0 → (wave G pre r d) .seen ≡ (wave G pre r n) .seen
+  seen-done d n h e = sym (done-all d n h e .same)

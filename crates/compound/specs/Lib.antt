@@ -1,0 +1,4 @@
+pub mod Nets
+pub mod Reading
+pub mod Search
+pub mod Queue

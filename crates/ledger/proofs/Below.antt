@@ -1,0 +1,83 @@
+-- Labels stay below 128, and classes are fewer than the rings numbered.
+use mathlib.Core.Path.{_≡_, refl, sym, ap, _∙_, subst}
+use mathlib.Core.Bool.{Bool, true, false, cond}
+use mathlib.Core.List.{List, [], _∷_}
+use mathlib.Core.Logic.{⊎-elim}
+use Prim.Native.Nat.{ℕ, zero, suc, _+_, _-_, _^_, _≤_, _<_}
+use native.Mathlib.Decide.{ℕ-discrete}
+use native.Mathlib.Omega.{arith}
+use lib.Bits.{bitOr, or-lt}
+use lib.Count.{trailingZeros}
+use lib.Dec.{eqb}
+use lib.ListN.{length, getD, set}
+use lib.Pow.{pow-pos, pow-lt}
+use lib.Seq.{getD-set-same, getD-set-other, set-out}
+use borrow.Author.Tests.{eqb-true}
+use Rattle.bondset.specs.Sets.{bit, has, members}
+use Rattle.bondset.proofs.Laws.{lt-or-ge, pos-of-ne, zero-bit, trailing}
+use Rattle.model.specs.Fold.{through, count}
+use Rattle.model.specs.State.{labelsIn, relabel, joined}
+use Rattle.ledger.specs.Ledger.{Numbers, numberedIn}
+use Rattle.ledger.specs.Held.{Labelled}
+
+-- what holds of both holds of the one that is picked
+pub cond-both : {X : Type 0} (P : X → Type 0) (b : Bool) (x y : X) → P x → P y → P (cond b x y)
+cond-both P true x y p q = p
+cond-both P false x y p q = q
+
+pub labelled-set : (labels : List ℕ) (i l : ℕ) → Labelled labels → l < 128 → Labelled (set labels i l)
+labelled-set labels i l h b = record { below = below }
+  where
+    below : (j : ℕ) → getD (set labels i l) j 0 < 128
+    below j =
+        elim (ℕ-discrete j i) [
+          | yes e ↦
+              ⊎-elim (λ (k : i < length labels). rw (e, getD-set-same labels i l 0 k) b) (λ (k : length labels ≤ i). rw (set-out labels i l k) (h .below j))
+              (lt-or-ge i (length labels))
+          | no n ↦ rw (getD-set-other labels i j l 0 n) (h .below j)
+        ]
+
+-- ---- joining
+
+labels-lt : (labels : List ℕ) → Labelled labels → (js : List ℕ) (acc : ℕ) → acc < 2 ^ 128
+    → through (λ j acc. bitOr acc (2 ^ getD labels j 0)) js acc < 2 ^ 128
+unfolding through
+labels-lt labels h [] acc l = l
+labels-lt labels h (j ∷ js) acc l = labels-lt labels h js (bitOr acc (2 ^ getD labels j 0)) (or-lt 128 acc (2 ^ getD labels j 0) l (pow-lt (h .below j)))
+
+relabel-labelled : (w j : ℕ) (labels : List ℕ) → w < 2 ^ 128 → Labelled labels → Labelled (relabel w (trailingZeros 128 w) j labels)
+unfolding relabel
+relabel-labelled w j labels l h = which (has w (getD labels j 0)) refl
+  where
+    some : has w (getD labels j 0) ≡ true → 0 < w
+    some e =
+        pos-of-ne w (λ z. let o : _≡_ {A = ℕ} 0 1 = sym (zero-bit (getD labels j 0)) ∙ ap (λ (x : ℕ). bit x (getD labels j 0)) (sym z) ∙ eqb-true _ 1 e in omega arith)
+
+    which : (b : Bool) → has w (getD labels j 0) ≡ b → Labelled (cond b (set labels j (trailingZeros 128 w)) labels)
+    which true e = labelled-set labels j (trailingZeros 128 w) h (trailing 128 w (some e) l .small)
+    which false e = h
+
+relabelled-labelled : (w : ℕ) → w < 2 ^ 128 → (js labels : List ℕ) → Labelled labels → Labelled (through (relabel w (trailingZeros 128 w)) js labels)
+unfolding through
+relabelled-labelled w l [] labels h = h
+relabelled-labelled w l (j ∷ js) labels h =
+    relabelled-labelled w l js (relabel w (trailingZeros 128 w) j labels) (relabel-labelled w j labels l h)
+
+pub joined-labelled : (short marks t : ℕ) (labels : List ℕ) → Labelled labels → Labelled (joined short marks t labels)
+unfolding joined labelsIn
+joined-labelled short marks t labels h =
+    relabelled-labelled (labelsIn labels t) (labels-lt labels h (members 128 t) 0 (pow-pos 128)) (count short (marks - short)) labels h
+
+-- ---- numbering
+
+-- The numbers before ring i is numbered.
+pub record Before (i : ℕ) (s : Numbers) : Type 0 where
+  pub few : s .classes ≤ i
+  pub labelled : Labelled (s .labels)
+
+pub numbered-before : (k : ℕ) (holds : List ℕ) (i : ℕ) (s : Numbers) → i < 128 → Before i s → Before (i + 1) (numberedIn k holds i s)
+unfolding numberedIn
+numbered-before k holds i s l b =
+    cond-both (Before (i + 1)) (eqb (getD (s .labels) i 0) i) _ _
+    (record { few = omega arith; labelled = labelled-set (s .labels) i (s .classes) (b .labelled) (omega arith) })
+    (record { few = omega arith; labelled = labelled-set (s .labels) i _ (b .labelled) (b .labelled .below (getD (s .labels) i 0)) })

@@ -1,0 +1,9 @@
+pub mod Turns
+pub mod Stores
+pub mod Numbering
+pub mod Below
+pub mod Entered
+pub mod Settled
+pub mod Pasted
+pub mod RowsWritten
+pub mod Keeps

@@ -1,0 +1,29 @@
+-- Stores one after the other are a paste.
+use mathlib.Core.Path.{_≡_, refl, sym, ap, ap₂, _∙_}
+use mathlib.Core.List.{List, [], _∷_}
+use Prim.Native.Nat.{ℕ, suc, _+_, _≤_, _<_}
+use native.Mathlib.Omega.{arith}
+use lib.ListN.{length, set}
+use lib.Seq.{paste, sets-eq}
+
+module _ (l : List ℕ) (i a b c d e : ℕ) where
+  pub stores-five : i + 5 ≤ length l → set (set (set (set (set l i a) (i + 1) b) (i + 2) c) (i + 3) d) (i + 4) e ≡ paste l i (a ∷ b ∷ c ∷ d ∷ e ∷ []) 5
+  stores-five h =
+      let e1 : i + 1 ≡ suc i = omega arith in
+      let e2 : i + 2 ≡ suc (suc i) = omega arith in
+      let e3 : i + 3 ≡ suc (suc (suc i)) = omega arith in
+      let e4 : i + 4 ≡ suc (suc (suc (suc i))) = omega arith in
+      rw (e1, e2, e3, e4) (sets-eq (a ∷ b ∷ c ∷ d ∷ e ∷ []) l i h)
+
+  pub stores-eight : (f g j : ℕ) → i + 8 ≤ length l
+      → set (set (set (set (set (set (set (set l i a) (i + 1) b) (i + 2) c) (i + 3) d) (i + 4) e) (i + 5) f) (i + 6) g) (i + 7) j
+      ≡ paste l i (a ∷ b ∷ c ∷ d ∷ e ∷ f ∷ g ∷ j ∷ []) 8
+  stores-eight f g j h =
+      let e1 : i + 1 ≡ suc i = omega arith in
+      let e2 : i + 2 ≡ suc (suc i) = omega arith in
+      let e3 : i + 3 ≡ suc (suc (suc i)) = omega arith in
+      let e4 : i + 4 ≡ suc (suc (suc (suc i))) = omega arith in
+      let e5 : i + 5 ≡ suc (suc (suc (suc (suc i)))) = omega arith in
+      let e6 : i + 6 ≡ suc (suc (suc (suc (suc (suc i))))) = omega arith in
+      let e7 : i + 7 ≡ suc (suc (suc (suc (suc (suc (suc i)))))) = omega arith in
+      rw (e1, e2, e3, e4, e5, e6, e7) (sets-eq (a ∷ b ∷ c ∷ d ∷ e ∷ f ∷ g ∷ j ∷ []) l i h)

@@ -1,0 +1,61 @@
+-- Loops over numbers and over the members of a set, one turn at a time: what is left of the loop gives the same in the end.
+use mathlib.Core.Path.{_≡_, refl, sym, ap, ap₂, _∙_, subst}
+use mathlib.Core.Bool.{Bool, false}
+use mathlib.Core.List.{_∷_}
+use Prim.Native.Nat.{ℕ, zero, suc, _+_, _-_, _^_, _≤_, _<_}
+use native.Mathlib.Numerals.{add-one}
+use native.Mathlib.Omega.{arith}
+use lib.Bits.{bitXor}
+use lib.Count.{trailingZeros}
+use lib.Dec.{eqb}
+use borrow.Author.Tests.{eqb-false}
+use Rattle.bondset.specs.Sets.{members, single}
+use Rattle.bondset.proofs.Laws.{pos-of-ne, trailing, single-below}
+use Rattle.bondset.proofs.Members.{members-zero, members-step, clear-lowest, and-pred-lt}
+use Rattle.model.specs.Fold.{through, count}
+
+-- a set that is not empty, and t is the set without its lowest member
+pub record Without (s t : ℕ) : Type 0 where
+  pub some : 0 < s
+  pub left : t ≡ bitXor s (2 ^ trailingZeros 128 s)
+  pub less : t < s
+
+-- the lowest member, found and taken away
+pub without-lowest : (s j one t : ℕ) (empty : Bool) → s < 2 ^ 128 → empty ≡ eqb s 0 → empty ≡ false → j ≡ trailingZeros 128 s → one ≡ single j
+    → t ≡ bitXor s one → Without s t
+without-lowest s j one t empty l e f p q r =
+    let some : 0 < s = pos-of-ne s (eqb-false s 0 (sym e ∙ f)) in
+    let k = trailing 128 s some l in
+    let left : t ≡ bitXor s (2 ^ trailingZeros 128 s) = r ∙ ap (bitXor s) (q ∙ ap single p ∙ single-below (trailingZeros 128 s) (k .small)) in
+    record { some = some; left = left; less = subst (λ (x : ℕ). x < s) (clear-lowest 128 s some l ∙ sym left) (and-pred-lt s some) }
+
+module _ {S : Type 0} (step : ℕ → S → S) where
+  -- no number, and one number and more
+  pub through-none : (i n : ℕ) (s : S) → n ≡ 0 → s ≡ through step (count i n) s
+  unfolding through count
+  through-none i n s e = rw e
+
+  pub through-first : (i n m : ℕ) (s : S) → n ≡ suc m → through step (count (suc i) m) (step i s) ≡ through step (count i n) s
+  unfolding through count
+  through-first i n m s e = rw e
+
+  module _ (i to : ℕ) (s g : S) where
+    -- one turn
+    pub turn : i < to → (t : S) → t ≡ step i s → through step (count i (to - i)) s ≡ g → through step (count (i + 1) (to - (i + 1))) t ≡ g
+    turn l t e h =
+        ap₂ (λ (k : ℕ) (x : S). through step (count k (to - (i + 1))) x) (add-one i) e ∙ through-first i (to - i) (to - (i + 1)) s (omega arith) ∙ h
+
+    -- none is left
+    pub turned : to ≤ i → through step (count i (to - i)) s ≡ g → s ≡ g
+    turned l h = through-none i (to - i) s (omega arith) ∙ h
+
+  module _ (s : ℕ) (x g : S) where
+    pub member-turn : s < 2 ^ 128 → (t : ℕ) (y : S) → Without s t → y ≡ step (trailingZeros 128 s) x
+        → through step (members 128 s) x ≡ g → through step (members 128 t) y ≡ g
+    unfolding through
+    member-turn l t y w f h =
+        rw (w .left, f, ← clear-lowest 128 s (w .some) l) (sym (ap (λ ms. through step ms x) (members-step 128 s (w .some) l)) ∙ h)
+
+    pub member-turned : s ≡ 0 → through step (members 128 s) x ≡ g → x ≡ g
+    unfolding through
+    member-turned e h = sym (rw (e, members-zero 128)) ∙ h
