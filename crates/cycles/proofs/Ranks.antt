@@ -1,4 +1,4 @@
--- Classes and relative ranks: what a class number and a relative rank say of rings and of every minimum basis (C2 and C3).
+-- Classes and relative ranks: what a class number and a relative rank say of rings and of every minimum basis.
 use mathlib.Core.Path.{_≡_, refl, sym, _∙_, ap, subst}
 use mathlib.Core.Bool.{Bool, true, false, cond, _&&_}
 use mathlib.Core.List.{List, [], _∷_, _++_, map}
