@@ -11,7 +11,7 @@ use Rattle.model.specs.Net.{near1, touch1, readAdj, readTouch, adjOf, to
 use Rattle.model.specs.Layer.{spread, wave}
 use Rattle.model.specs.Fault.{Fault, none, fault, orElse, when, firstOf, someBelow, samePair, bondFault, reached, pieceFault, sizeFault, firstFault}
 use Rattle.model.specs.Run.{report}
-use Rattle.model.specs.Bench.{Case, All, bench, bench-reported}
+use Rattle.model.specs.Bench.{Case, Each, bench, bench-reported}
 use Rattle.model.proofs.Faults.{none-accepted}
 use Rattle.model.proofs.Meets.{report-accepted}
 
@@ -32,8 +32,8 @@ or-none (Fault.fault number place) g e = (e, absurd (impossible e))
     impossible : fault number place ≡ none → ⊥
     impossible e = let z : _≡_ {A = ℕ} 0 1 = cc in omega arith
 
-cases-right : (ks : List Case) → faultOf ks ≡ none → All (λ (k : Case). report (k .compound) ≡ k .expected) ks
-    → All (λ (k : Case). Right (k .compound) (λ a. a) (k .expected)) ks
+cases-right : (ks : List Case) → faultOf ks ≡ none → Each (λ (k : Case). report (k .compound) ≡ k .expected) ks
+    → Each (λ (k : Case). Right (k .compound) (λ a. a) (k .expected)) ks
 unfolding faultOf
 cases-right [] e r = tt
 cases-right (k ∷ ks) e r =
@@ -41,5 +41,5 @@ cases-right (k ∷ ks) e r =
     (subst (Right (k .compound) (λ a. a)) (r .0) (report-accepted (k .compound) (none-accepted (k .compound) .0 one)), cases-right ks others (r .1))
 
 -- Every expected report of the bench set is the right one for its compound.
-pub bench-right : All (λ (k : Case). Right (k .compound) (λ a. a) (k .expected)) bench
+pub bench-right : Each (λ (k : Case). Right (k .compound) (λ a. a) (k .expected)) bench
 bench-right = cases-right bench faultless bench-reported

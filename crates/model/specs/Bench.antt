@@ -91,10 +91,10 @@ unfoldable pub computed : Compound → Report
 unfolding trailingZeros single members rowAt putRow reducedBy usedBy reduced used pushedTag pivotOf through each count near1 touch1 readAdj readTouch adjOf touchOf netOf near bond preceding spread wave layer layersInto walk ways start marked labelsIn relabel joined unmarked kept judged link tried above partners oddLoop tipLoop evenLoop seek two topStep tops topLoop lengthLoop lengthRound more numbered classed settled runAll reportBy report
 computed c = report c
 
-abbrev pub All : {X : Type 0} → (X → Type 0) → List X → Type 0
-All P [] = Unit {0}
-All P (x ∷ xs) = P x × All P xs
+abbrev pub Each : {X : Type 0} → (X → Type 0) → List X → Type 0
+Each P [] = Unit {0}
+Each P (x ∷ xs) = P x × Each P xs
 
-pub bench-reported : All (λ (k : Case). report (k .compound) ≡ k .expected) bench
+pub bench-reported : Each (λ (k : Case). report (k .compound) ≡ k .expected) bench
 unfolding computed bench
 bench-reported = (refl, (refl, (refl, (refl, (refl, (refl, (refl, (refl, (refl, (refl, (refl, (refl, tt))))))))))))
