@@ -20,4 +20,5 @@ pub mod Bases
 pub mod Swaps
 pub mod Ranks
 pub mod Unique
+pub mod OneRow
 pub mod Refusals
