@@ -21,4 +21,5 @@ pub mod Swaps
 pub mod Ranks
 pub mod Unique
 pub mod OneRow
+pub mod FewClasses
 pub mod Refusals
