@@ -1,4 +1,4 @@
--- The expected reports of the bench set are the right ones, by the definitions.
+-- The expected reports of the bench set, and of the cases beside it, are the right ones, by the definitions.
 use mathlib.Core.Path.{_≡_, refl, subst}
 use mathlib.Core.List.{List, [], _∷_}
 use Prim.Native.Nat.{ℕ}
@@ -11,7 +11,7 @@ use Rattle.model.specs.Net.{near1, touch1, readAdj, readTouch, adjOf, to
 use Rattle.model.specs.Layer.{spread, wave}
 use Rattle.model.specs.Fault.{Fault, none, fault, orElse, when, firstOf, someBelow, samePair, bondFault, reached, pieceFault, sizeFault, firstFault}
 use Rattle.model.specs.Run.{report}
-use Rattle.model.specs.Bench.{Case, Each, bench, bench-reported}
+use Rattle.model.specs.Bench.{Case, Each, bench, furtherCases, bench-reported, further-reported}
 use Rattle.model.proofs.Faults.{none-accepted}
 use Rattle.model.proofs.Meets.{report-accepted}
 
@@ -20,9 +20,9 @@ faultOf : List Case → Fault
 faultOf [] = none
 faultOf (k ∷ ks) = orElse (firstFault (k .compound)) (faultOf ks)
 
-faultless : faultOf bench ≡ none
-unfolding bench faultOf orElse when firstOf someBelow samePair bondFault reached pieceFault sizeFault firstFault single members rowAt putRow through count near1 touch1 readAdj readTouch adjOf touchOf netOf near spread wave
-faultless = refl
+faultless : (faultOf bench ≡ none) × (faultOf furtherCases ≡ none)
+unfolding bench furtherCases faultOf orElse when firstOf someBelow samePair bondFault reached pieceFault sizeFault firstFault single members rowAt putRow through count near1 touch1 readAdj readTouch adjOf touchOf netOf near spread wave
+faultless = (refl, refl)
 
 or-none : (f g : Fault) → orElse f g ≡ none → (f ≡ none) × (g ≡ none)
 unfolding orElse
@@ -42,4 +42,8 @@ cases-right (k ∷ ks) e r =
 
 -- Every expected report of the bench set is the right one for its compound.
 pub bench-right : Each (λ (k : Case). Right (k .compound) (λ a. a) (k .expected)) bench
-bench-right = cases-right bench faultless bench-reported
+bench-right = cases-right bench (faultless .0) bench-reported
+
+-- Every expected report beside the bench set is the right one for its compound.
+pub further-right : Each (λ (k : Case). Right (k .compound) (λ a. a) (k .expected)) furtherCases
+further-right = cases-right furtherCases (faultless .1) further-reported
