@@ -12,15 +12,15 @@ use Rattle.cycles.specs.Ring.{Relevant}
 use Rattle.cycles.specs.Family.{Family, Member, Kept, Size}
 use Rattle.cycles.specs.Rows.{Row, Ascending, Report, Right, sizes}
 use Rattle.cycles.proofs.PathsDecide.{not-in-none}
-use Rattle.cycles.proofs.Families.{prototype-member, member-relevant}
+use Rattle.cycles.proofs.Families.{prototype-member}
 use Rattle.cycles.proofs.Members.{member-family-unique}
 use Rattle.cycles.proofs.MembersLists.{in-left, in-right, in-append, once-append}
 use Rattle.cycles.proofs.Bases.{ascending-rest}
 use Rattle.cycles.proofs.Swaps.{interchangeable-same-length}
-use Rattle.cycles.proofs.Ranks.{in-map, at-below, InRow, relevant-in-row, same-class-iff, class-rows-length, class-row-of, class-row-exists}
+use Rattle.cycles.proofs.Ranks.{in-map, at-exists, at-below, InRow, relevant-in-row, same-class-iff, class-rows-length, class-row-of, class-row-exists}
 use Rattle.cycles.proofs.Unique.{ascending-fresh}
+use Rattle.cycles.proofs.OneRow.{row-member-relevant}
 use Rattle.answers.specs.Bytes.{Exactly, ClassCount}
-use Rattle.answers.proofs.Places.{at-exists}
 
 ascending-once : (fs : List Family) → Ascending fs → Once fs
 ascending-once [] a = Once.none
@@ -80,9 +80,7 @@ module _ (c : Compound) (sound : Sound c) (rank : ℕ → ℕ) (injective : (a b
           listed = t .listed;
           once = t .once;
           all = λ C. (
-            λ h.
-                let w = t .all C .0 h in
-                member-relevant c sound rank (right .kept (w .row .family) .0 (in-map (λ row. row .family) (w .listed))) (w .member),
+            λ h. let w = t .all C .0 h in row-member-relevant c sound rank right (w .listed) (w .member),
             λ r. t .all C .1 (relevant-in-row c sound rank injective right r),
           );
           count = t .count ∙ sym (right .rings-are);

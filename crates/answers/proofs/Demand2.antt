@@ -1,7 +1,7 @@
 -- Demand 2, of the rows as they stand in the left buffer: "A ring is relevant if it is no sum of strictly shorter rings. Every relevant ring is in
 -- exactly one reported family, every member of a reported family is relevant, sizes count members."
 use mathlib.Core.Path.{_≡_, refl, sym, _∙_, ap, subst}
-use mathlib.Core.List.{List, [], _∷_, map}
+use mathlib.Core.List.{List, [], _∷_}
 use Prim.Native.Nat.{ℕ, zero, suc, _+_, _*_, _<_, _≤_}
 use native.Mathlib.Omega.{arith}
 use lib.ListN.{length}
@@ -9,30 +9,16 @@ use Rattle.spans.proofs.Marking.{all-element}
 use Rattle.cycles.specs.Compound.{Compound}
 use Rattle.cycles.specs.Ring.{Relevant}
 use Rattle.cycles.specs.Family.{Family, Member, Kept, Size}
-use Rattle.cycles.specs.Rows.{Row, At, Ascending, sizes}
-use Rattle.cycles.proofs.Families.{member-relevant}
-use Rattle.cycles.proofs.Members.{member-family-unique}
-use Rattle.cycles.proofs.Bases.{ascending-rest}
-use Rattle.cycles.proofs.Ranks.{at-element, at-below, relevant-in-row}
-use Rattle.cycles.proofs.Unique.{ascending-fresh}
+use Rattle.cycles.specs.Rows.{Row, At, sizes}
+use Rattle.cycles.proofs.Ranks.{at-element, at-below}
+use Rattle.cycles.proofs.OneRow as OneRow
+use Rattle.cycles.proofs.OneRow.{row-member-relevant}
 use Rattle.answers.specs.Answered.{full, familyBytes, classBytes, sizeOf, Answered}
 use Rattle.answers.specs.Bytes.{byte, familyAt, sumTo, Exactly, SpareKept, MemberAt, InOneRow}
-use Rattle.answers.proofs.Places.{element-at, length-familyBytes, length-classBytes, spare-kept, last-byte-row, sumTo-first}
+use Rattle.answers.proofs.Places.{length-familyBytes, length-classBytes, spare-kept, last-byte-row, sumTo-first}
 use Rattle.answers.proofs.Counts.{right-families, right-rings}
-use Rattle.answers.proofs.Reported.{Reported, reported, sound, families-length, classes-length, row-there, row-at, row-kept, row-member}
+use Rattle.answers.proofs.Reported.{Reported, reported, sound, families-length, classes-length, row-there, row-at, row-member}
 
--- ---- places of families
-at-map : {X Y : Type 0} (f : X → Y) {x : X} {xs : List X} {k : ℕ} → At xs k x → At (map f xs) k (f x)
-at-map f At.here = At.here
-at-map f (At.later a) = At.later (at-map f a)
-
-ascending-place : {fs : List Family} {f : Family} {j k : ℕ} → Ascending fs → At fs j f → At fs k f → j ≡ k
-ascending-place a At.here At.here = refl
-ascending-place a At.here (At.later q) = absurd (ascending-fresh a (at-element q))
-ascending-place a (At.later p) At.here = absurd (ascending-fresh a (at-element p))
-ascending-place a (At.later p) (At.later q) = ap suc (ascending-place (ascending-rest a) p q)
-
--- ---- sizes
 sizeOf-at : {rows : List Row} {k : ℕ} {row : Row} → At rows k row → sizeOf rows k ≡ row .size
 unfolding sizeOf
 sizeOf-at At.here = refl
@@ -71,22 +57,17 @@ module _ {n : ℕ} {bonds rows classRows : List ℕ} {i cyclomatic families clas
   -- "Every member of a reported family is relevant."
   pub row-members-relevant : {k C : ℕ} → k < families → MemberAt c left k C → Relevant c C
   row-members-relevant {k} h m =
-      let (row, t) = row-at told k h in member-relevant c (sound told) (λ a. a) (row-kept told (at-element (t .at))) (row-member told t m)
+      let (row, t) = row-at told k h in row-member-relevant c (sound told) (λ a. a) (told .right) (at-element (t .at)) (row-member told t m)
 
   -- "Every relevant ring is in exactly one reported family."
   pub relevant-in-one-row : {C : ℕ} → Relevant c C → InOneRow c left families C
   relevant-in-one-row {C} relevant =
-      let w = relevant-in-row c (sound told) (λ a. a) (λ a b h l e. e) (told .right) relevant in
-      let (k, a) = element-at (w .listed) in
+      let w = OneRow.relevant-in-one-row c (sound told) (λ a. a) (λ a b h l e. e) (told .right) relevant in
       record {
-        row = k;
-        inside = omega (arith, at-below a, families-length told);
-        member = subst (λ (f : Family). Member c (λ a. a) f C) (sym (row-there told a .family)) (w .member);
-        only = λ j h m.
-            let (row, t) = row-at told j h in
-            let e = member-family-unique c (sound told) (λ a. a) (λ a b h l e. e) (row-member told t m) (w .member) in
-            ascending-place (told .right .ordered)
-            (subst (At (map (λ row. row .family) (told .R .rows)) j) e (at-map (λ row. row .family) (t .at))) (at-map (λ row. row .family) a);
+        row = w .place;
+        inside = omega (arith, at-below (w .at), families-length told);
+        member = subst (λ (f : Family). Member c (λ a. a) f C) (sym (row-there told (w .at) .family)) (w .member);
+        only = λ j h m. let (row, t) = row-at told j h in w .only j row (t .at) (row-member told t m) .0;
       }
 
   size-there : (k : ℕ) → k < families → Size c (λ a. a) (familyAt left k) (sizeOf (told .R .rows) k)

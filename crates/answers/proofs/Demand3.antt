@@ -23,10 +23,11 @@ use Rattle.cycles.proofs.Families.{prototype-unique, prototype-member}
 use Rattle.cycles.proofs.Bases.{marked-minimum, marked-count, marked-none-no-ring, marked-total}
 use Rattle.cycles.proofs.Swaps.{interchangeable-sym, interchangeable-same-length, interchangeable-relevant}
 use Rattle.cycles.proofs.Ranks as Ranks
-use Rattle.cycles.proofs.Ranks.{at-element, at-below, same-class-iff, class-row-exists, class-row-of, relative-rank-in-every-minimum, holding-iff}
+use Rattle.cycles.proofs.Ranks.{at-element, at-exists, element-at, at-below, same-class-iff, class-row-exists, class-row-of}
+use Rattle.cycles.proofs.Ranks.{relative-rank-in-every-minimum, holding-iff}
 use Rattle.answers.specs.Answered.{full, Answered}
 use Rattle.answers.specs.Bytes.{familyAt, markAt, classAt, longAt, rankAt, familiesAt, essentialAt, sumTo, rowsOf, MemberAt, ClassCount, OfClass, MarkedRows}
-use Rattle.answers.proofs.Places.{at-exists, element-at, longAt-row, rankAt-row, familiesAt-row, essentialAt-row, sumTo-first}
+use Rattle.answers.proofs.Places.{longAt-row, rankAt-row, familiesAt-row, essentialAt-row, sumTo-first}
 use Rattle.answers.proofs.Counts.{class-below, right-classes}
 use Rattle.answers.proofs.Demand2.{row-members-relevant, relevant-in-one-row}
 use Rattle.answers.proofs.Reported.{Reported, reported, sound, families-length, classes-length, row-there, row-at, row-kept, row-member}

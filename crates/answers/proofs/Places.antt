@@ -6,22 +6,9 @@ use native.Mathlib.Omega.{arith}
 use native.Mathlib.Nat.{div-add-mod', mul-zero, mul-suc}
 use lib.ListN.{length, getD, drop, length-append, length-drop, List·getD-append}
 use lib.Seq.{getD-append-add, drop-append-seam}
-use Rattle.spans.specs.Elements.{_∈_}
 use Rattle.cycles.specs.Rows.{Row, ClassRow, At}
 use Rattle.answers.specs.Answered.{familyBytes, classBytes, over}
 use Rattle.answers.specs.Bytes.{byte, familyAt, markAt, classAt, longAt, rankAt, familiesAt, essentialAt, sumTo, SpareKept}
-
-module _ {X : Type 0} where
-  -- Below its length a list has something at each place.
-  pub at-exists : (xs : List X) (k : ℕ) → k < length xs → (x : X) × At xs k x
-  at-exists [] k h = absurd (omega arith)
-  at-exists (x ∷ xs) zero h = (x, At.here)
-  at-exists (x ∷ xs) (suc k) h = let (y, a) = at-exists xs k (omega arith) in (y, At.later a)
-
-  -- Each element stands at a place.
-  pub element-at : {x : X} {xs : List X} → x ∈ xs → (k : ℕ) × At xs k x
-  element-at _∈_.first = (0, At.here)
-  element-at (_∈_.later i) = let (k, a) = element-at i in (suc k, At.later a)
 
 -- Blocks of w bytes, one for each element of a list.
 module _ {X : Type 0} (w : ℕ) (block : X → List ℕ) (blocks : List X → List ℕ) (wide : (x : X) → length (block x) ≡ w) (none : blocks [] ≡ [])

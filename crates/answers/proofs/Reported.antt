@@ -9,11 +9,11 @@ use Rattle.cycles.specs.Compound.{Compound, Sound}
 use Rattle.cycles.specs.Family.{Family, Member, Kept}
 use Rattle.cycles.specs.Rows.{Row, Report, At}
 use Rattle.cycles.specs.Refusal.{Accepted}
-use Rattle.cycles.proofs.Ranks.{in-map, class-rows-length}
+use Rattle.cycles.proofs.Ranks.{in-map, at-exists, class-rows-length}
 use Rattle.cycles.proofs.Refusals.{accepted-sound}
 use Rattle.answers.specs.Answered.{full, familyBytes, classBytes, over, sizeOf, familyRoom, classRoom, RightReport, Answered}
 use Rattle.answers.specs.Bytes.{familyAt, markAt, classAt, MemberAt}
-use Rattle.answers.proofs.Places.{at-exists, familyAt-row, markAt-row, classAt-row}
+use Rattle.answers.proofs.Places.{familyAt-row, markAt-row, classAt-row}
 
 -- The right report that a full answer tells.
 pub record Reported (n : ℕ) (bonds rows classRows : List ℕ) (i cyclomatic families classes total rings size : ℕ) (left left′ : List ℕ) : Type 0 where

@@ -1,4 +1,4 @@
--- A relevant ring from one of its atoms: its atoms in order, and how far they are (R6 and R7).
+-- A relevant ring from one of its atoms: its atoms in order, and how far they are.
 use mathlib.Core.Path.{_≡_, refl, sym, ap, _∙_}
 use mathlib.Core.List.{List, [], _∷_}
 use Prim.Native.Nat.{ℕ, suc, _-_, _^_, _<_, _≤_, min}
@@ -125,7 +125,7 @@ module _ (c : Compound) (sound : Sound c) where
             rw (F .start, getD-atoms r p i h, long) (graph-distance c (F .far i h));
       }
 
-  -- R6 and R7.
+  -- A relevant ring, told from any atom that it meets.
   pub around : {C r : ℕ} → Relevant c C → 0 < degree c C r → Around C r
   around {C} {r} rel h =
       let F = relevant-from (graphOf c) (simple c sound) (holds C) (relevant-graph rel) r (omega (arith, degree-deg c sound C r)) in

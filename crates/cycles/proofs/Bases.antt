@@ -1,4 +1,4 @@
--- The marked prototypes are a minimum basis, and the relevant rings are the rings of the minimum bases (B1 to B4).
+-- The marked prototypes are a minimum basis, and the relevant rings are the rings of the minimum bases.
 use mathlib.Core.Path.{_≡_, refl, sym, _∙_, subst}
 use mathlib.Core.List.{List, [], _∷_, map}
 use mathlib.Core.Logic.{_⊎_, inl, inr}
@@ -56,11 +56,11 @@ module _ (c : Compound) (sound : Sound c) where
       go (inl ring) = not-shorter-relevant c ring (λ s. r .alone (shorter-short c s))
       go (inr s) = absurd (r .alone (shorter-short c s))
 
-  -- A relevant ring is in some minimum basis (003, lemma 1).
+  -- A relevant ring is in some minimum basis.
   pub relevant-in-some-minimum : {C : ℕ} → Relevant c C → (R : List ℕ) × Minimum c (C ∷ R)
   relevant-in-some-minimum r = let (B, m) = minimum-exists c sound in relevant-in-minimum bondSets (len c) (Closed c) m (relevant-no-sum r)
 
-  -- What is in some minimum basis is a relevant ring (003, lemma 1).
+  -- What is in some minimum basis is a relevant ring.
   pub in-some-minimum-relevant : {C : ℕ} {R : List ℕ} → Minimum c (C ∷ R) → Relevant c C
   in-some-minimum-relevant m = no-sum-relevant (in-minimum-relevant bondSets (len c) (Closed c) m)
 

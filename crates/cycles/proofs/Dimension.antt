@@ -1,4 +1,4 @@
--- How many sets a basis of the closed sets has: as many as there are bonds and pieces, less the atoms (R8).
+-- How many sets a basis of the closed sets has: as many as there are bonds and pieces, less the atoms.
 use mathlib.Core.Path.{_≡_, refl, sym, ap, ap₂, _∙_}
 use mathlib.Core.Bool.{Bool, true, false, cond, _||_}
 use mathlib.Core.List.{List, [], _∷_, map}
@@ -423,7 +423,7 @@ module _ (c : Compound) (sound : Sound c) where
     rank : length (ranked .chosen) + pieces c root ≡ c .n
     rank = omega (arith, stars-fewer, images-fewer, atoms-stars .count, length-map (ranked .chosen) (boundary c))
 
-    -- R8: a basis of the closed sets has m - n and the number of pieces members.
+    -- A basis of the closed sets has m - n and the number of pieces members.
     pub dimension : (B : List ℕ) → Basis c B → length B + c .n ≡ m c + pieces c root
     dimension B b = omega (arith, same-length bondSets b kernel-basis, ranked .count, length-singlesOf (λ i. i) (m c), rank)
 

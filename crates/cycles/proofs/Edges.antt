@@ -1,4 +1,4 @@
--- The bonds of a path of atoms: parity of degrees, length, and closed paths of different atoms as rings (R2 and R3).
+-- The bonds of a path of atoms: parity of degrees, length, and closed paths of different atoms as rings.
 use mathlib.Core.Path.{_≡_, refl, sym, ap, ap₂, _∙_}
 use mathlib.Core.Bool.{Bool, true, false, cond}
 use mathlib.Core.List.{List, [], _∷_}
@@ -97,7 +97,7 @@ module _ (c : Compound) where
         bonds-are = λ i. ap (λ (x : ℕ). holds x i) q ∙ holds-flip k S i ∙ ap (xor (same k i)) (r .bonds-are i);
       }
 
-  -- R2: at most as many bonds as steps.
+  -- At most as many bonds as steps.
   pub edges-length : {u S : ℕ} {path : List ℕ} → Edges c (u ∷ path) S → len c S ≤ length path
   edges-length {u} {S} e =
       let r = edges-walk e in
@@ -116,7 +116,7 @@ module _ (c : Compound) (sound : Sound c) where
   edges-unique (more {a = a} {b = b} {k = k} j e q) (more {k = l} i f r) =
       q ∙ ap₂ (λ (x y : ℕ). bitXor (2 ^ x) y) (sound .once k l a b j i) (edges-unique e f) ∙ sym r
 
-  -- R2: an odd number of the bonds meets an atom exactly if it is one end of the path and not the other.
+  -- An odd number of the bonds meets an atom exactly if it is one end of the path and not the other.
   pub edges-parity : {u S : ℕ} {path : List ℕ} → Edges c (u ∷ path) S → (a : ℕ) → degree c S a % 2 ≡ (is u a + is (last u path) a) % 2
   edges-parity {u} {S} {path} e a =
       let r = edges-walk c e in
@@ -127,7 +127,7 @@ module _ (c : Compound) (sound : Sound c) where
       ∙ sym (par-cnt (star G (edges p) a) (m c)) ∙ ap val (boundary G u p (r .walk) a) ∙ val-parity (same u a) (same (lastOf u p) a)
       ∙ ap₂ (λ (x y : ℕ). (x + y) % 2) (is-val u a) (is-val (lastOf u p) a ∙ ap (λ (x : ℕ). is x a) ends)
 
-  -- R3: three or more different atoms, each bonded to the next and the last to the first.
+  -- A ring from three or more different atoms, each bonded to the next and the last to the first.
   pub record RingOf (S : ℕ) (atoms : List ℕ) : Type 0 where
     pub ring : Ring c S
     pub long : len c S ≡ length atoms

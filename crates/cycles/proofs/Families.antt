@@ -1,4 +1,4 @@
--- What paths make up: two choices differ by shorter rings, crossing paths make shorter rings, apart paths a ring (F1 to F4).
+-- What paths make up: two choices differ by shorter rings, crossing paths make shorter rings, apart paths a ring.
 use mathlib.Core.Path.{_≡_, refl, sym, ap₂, _∙_, subst}
 use mathlib.Core.List.{List, [], _∷_}
 use mathlib.Core.Logic.{_⊎_, inl, inr, ⊎-elim}
@@ -131,7 +131,7 @@ module _ (c : Compound) (sound : Sound c) (rank : ℕ → ℕ) where
       (three-ways-closed c sound (down-way (s .downP) (s .made .edgesP)) (down-way (s .downQ) (s .made .edgesQ))
       (link-way (s .candidate) (s .made .edgesLink) .way))
 
-  -- F1
+  -- What two choices of paths make up differs by rings shorter than the family.
   pub made-differ-shorter : {f : Family} {d : ℕ} {link P Q P′ Q′ : List ℕ} {S T : ℕ} → Made f d link P Q S → Made f d link P′ Q′ T
       → Shorter c (f .long) (bitXor S T)
   made-differ-shorter {f} s t =
@@ -143,7 +143,7 @@ module _ (c : Compound) (sound : Sound c) (rank : ℕ → ℕ) where
       (two-ways-shorter c sound (down-way (s .downP) (s .made .edgesP)) (down-way (t .downP) (t .made .edgesP)) (omega (arith, l .long, l .some)))
       (two-ways-shorter c sound (down-way (s .downQ) (s .made .edgesQ)) (down-way (t .downQ) (t .made .edgesQ)) (omega (arith, l .long, l .some))))
 
-  -- F2
+  -- Paths that share an atom other than r make up a sum of rings shorter than the family.
   pub crossing-shorter : {f : Family} {d : ℕ} {link P Q : List ℕ} {S a : ℕ} → Made f d link P Q S → a ∈ P → a ∈ Q → (a ≡ f .r → ⊥)
       → Shorter c (f .long) S
   crossing-shorter {f} s inP inQ other =
@@ -159,7 +159,7 @@ module _ (c : Compound) (sound : Sound c) (rank : ℕ → ℕ) where
       (three-ways-shorter c sound (p .above) (q .above) (l .way) (omega (arith, l .long, p .steps, q .steps)))
       (two-ways-shorter c sound (p .below) (q .below) (omega (arith, l .long, l .some, p .steps, q .steps))))
 
-  -- F3: with paths that meet in r alone, a ring; its atoms are those of the paths and of the link, and all but r precede r.
+  -- With paths that meet in r alone, a ring; its atoms are those of the paths and of the link, and all but r precede r.
   pub record MadeRing (f : Family) (link P Q : List ℕ) (S : ℕ) : Type 0 where
     pub ring : Ring c S
     pub long : len c S ≡ f .long
@@ -321,12 +321,12 @@ module _ (c : Compound) (sound : Sound c) (rank : ℕ → ℕ) where
       not-shorter-relevant c ring (λ h. relevant-not-shorter c relevant
       (subst (λ (n : ℕ). Shorter c n S) (sym lenS) (shorter-other both (subst (λ (n : ℕ). Shorter c n C) lenC h))))
 
-  -- F4
+  -- Every member of a kept family is relevant.
   pub member-relevant : {f : Family} {C : ℕ} → Kept c rank f → Member c rank f C → Relevant c C
   member-relevant kept m =
       relevant-other (m .long) (prototype-member (kept .prototype) .long) (m .ring) (member-differ-shorter m (kept .prototype)) (kept .relevant)
 
-  -- F4: a relevant bond set made up of two down paths is a member of a kept family.
+  -- A relevant bond set made up of two down paths is a member of a kept family.
   pub made-relevant-kept : {f : Family} {d : ℕ} {link P Q : List ℕ} {S : ℕ} → Made f d link P Q S → Relevant c S → len c S ≡ f .long
       → Kept c rank f × Member c rank f S
   made-relevant-kept {f} {d} {link} {S} s relevant long = (kept (apart-or-crossing t), made-member s (relevant .ring) long)

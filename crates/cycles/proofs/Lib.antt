@@ -20,4 +20,6 @@ pub mod Bases
 pub mod Swaps
 pub mod Ranks
 pub mod Unique
+pub mod OneRow
+pub mod FewClasses
 pub mod Refusals

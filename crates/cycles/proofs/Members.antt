@@ -1,4 +1,4 @@
--- Every relevant ring is in exactly one family, and sizes are products of numbers of paths (F5 to F7).
+-- Every relevant ring is in exactly one family, and sizes are products of numbers of paths.
 use mathlib.Core.Path.{_≡_, sym, ap₂, _∙_, subst}
 use mathlib.Core.List.{List}
 use mathlib.Core.Logic.{_↔_, ⊎-elim}
@@ -24,14 +24,14 @@ module _ (c : Compound) (sound : Sound c) (rank : ℕ → ℕ) (injective : (a b
     pub kept : Kept c rank family
     pub member : Member c rank family C
 
-  -- F5: every relevant ring is a member of a kept family.
+  -- Every relevant ring is a member of a kept family.
   pub relevant-in-family : {C : ℕ} → Relevant c C → InFamily C
   relevant-in-family relevant =
       let w = relevant-found c sound rank injective relevant in
       let both = made-relevant-kept c sound rank (w .made) relevant (w .long) in
       record { family = w .f; kept = both .0; member = both .1 }
 
-  -- F6: a ring is a member of one family only.
+  -- A ring is a member of one family only.
   pub member-family-unique : {f g : Family} {C : ℕ} → Member c rank f C → Member c rank g C → f ≡ g
   member-family-unique = member-family c sound rank
 
@@ -91,7 +91,7 @@ module _ (c : Compound) (sound : Sound c) (rank : ℕ → ℕ) (injective : (a b
             count = pairs .count ∙ ap₂ _*_ (s .many) (t .many);
           }
 
-  -- F7: a kept family has a member for each pair of down paths, from p and from q.
+  -- A kept family has a member for each pair of down paths, from p and from q.
   pub size-is-product : {f : Family} {d a b : ℕ} {link : List ℕ} → Kept c rank f → Candidate c rank f d link → AllDown (f .r) (f .p) d a
       → AllDown (f .r) (f .q) d b → Size c rank f (a * b)
   size-is-product kept candidate s t = all-pairs candidate kept s t

@@ -1,4 +1,4 @@
--- A relevant ring as what two paths down to its last atom make up with a link (F5).
+-- A relevant ring as what two paths down to its last atom make up with a link.
 use mathlib.Core.Path.{_≡_, refl, sym, ap, _∙_, subst}
 use mathlib.Core.Bool.{Bool, cond, _||_}
 use mathlib.Core.List.{List, [], _∷_}
@@ -304,7 +304,7 @@ module _ (c : Compound) (sound : Sound c) (rank : ℕ → ℕ) where
       even : (d : ℕ) × (len c C ≡ 2 * suc d) → Found C
       even (d, e) = let v = stop d (omega arith) in stand-even (omega (arith, w .long, w .three)) refl e (v .edges) (v .stand)
 
-  -- F5: a relevant ring is what two paths down to the last of its atoms make up.
+  -- A relevant ring is what two paths down to the last of its atoms make up.
   pub relevant-found : {C : ℕ} → ((a b : ℕ) → a < c .n → b < c .n → rank a ≡ rank b → a ≡ b) → Relevant c C → Found C
   relevant-found {C} injective relevant = go (highest-below (λ a. 0 < degree c C a) (λ a. decLt 0 (degree c C a)) rank (c .n))
     where

@@ -1,4 +1,4 @@
--- Which bonds a path uses, and that a ring says which way its two paths go down (F7).
+-- Which bonds a path uses, and that a ring says which way its two paths go down.
 use mathlib.Core.Path.{_≡_, refl, sym, ap, ap₂, _∙_, subst}
 use mathlib.Core.Bool.{Bool, true, false}
 use mathlib.Core.List.{List, [], _∷_}
@@ -122,6 +122,6 @@ module _ (c : Compound) where
           (inside b (_∈_.later (down-first c rank down))) j′ (used k (down-uses down′ j)) in
           ap₂ _∷_ e (rest-same down down′ next (omega arith) (λ x h. inside x (_∈_.later h)) (λ k u. used k (Uses.later u)))
 
-      -- F7: such paths are the same.
+      -- Such paths are the same.
       pub side-unique : P ≡ P′
       side-unique = rest-same (s .down) (t .down) refl (omega arith) (λ x h. h) (λ k u. u)

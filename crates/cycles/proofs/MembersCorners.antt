@@ -1,4 +1,4 @@
--- What a member's atoms tell: its family (F6), and its two paths (F7).
+-- What a member's atoms tell: its family, and its two paths.
 use mathlib.Core.Path.{_≡_, refl, sym, ap, ap₂, _∙_, subst}
 use mathlib.Core.Bool.{Bool, true, false}
 use mathlib.Core.List.{List, [], _∷_}
@@ -131,7 +131,7 @@ module _ (c : Compound) (sound : Sound c) (rank : ℕ → ℕ) where
       corners-of (s .candidate) (s .downP) (s .downQ)
       (apart-ring c sound rank (member-made c sound rank s) (ring-apart c sound rank (member-made c sound rank s) (s .ring) (s .long)))
 
-  -- F6: a ring is a member of one family only.
+  -- A ring is a member of one family only.
   pub member-family : {f g : Family} {C : ℕ} → Member c rank f C → Member c rank g C → f ≡ g
   member-family s t = middle-same (corners s) (corners t) (sym (s .long) ∙ t .long) (corners s .middle) (corners t .middle)
 
@@ -184,7 +184,7 @@ module _ (c : Compound) (sound : Sound c) (rank : ℕ → ℕ) where
           let l : holds U k ≡ false = not-true (holds U k) (λ h. uses-apart c sound linked (held-uses c edgesLink h) u) in
           holds-three S T U k sum ∙ ap₂ xor (ap₂ xor s t) l
 
-  -- F7: two pairs of paths that meet in r alone and make up the same ring are the same pair.
+  -- Two pairs of paths that meet in r alone and make up the same ring are the same pair.
   pub made-injective : {f : Family} {d : ℕ} {link P Q P′ Q′ : List ℕ} {C : ℕ} → Made c sound rank f d link P Q C → Made c sound rank f d link P′ Q′ C
       → ((a : ℕ) → a ∈ P → a ∈ Q → a ≡ f .r) → ((a : ℕ) → a ∈ P′ → a ∈ Q′ → a ≡ f .r) → (P ≡ P′) × (Q ≡ Q′)
   made-injective s t apart apart′ = (side-unique c rank (sideP s apart) (sideP t apart′), side-unique c rank (sideQ s apart) (sideQ t apart′))

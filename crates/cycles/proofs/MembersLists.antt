@@ -25,7 +25,8 @@ module _ {X : Type 0} where
   pick-others (Pick.there p) _∈_.first other = _∈_.first
   pick-others (Pick.there p) (_∈_.later h) other = _∈_.later (pick-others p h other)
 
-  once-length-le : {xs ys : List X} → Once xs → ((a : X) → a ∈ xs → a ∈ ys) → length xs ≤ length ys
+  -- A list without repeats is no longer than one that has all its elements.
+  pub once-length-le : {xs ys : List X} → Once xs → ((a : X) → a ∈ xs → a ∈ ys) → length xs ≤ length ys
   once-length-le Once.none inside = omega arith
   once-length-le (Once.more {x = x} {xs = xs} fresh once) inside =
       let pick = in-pick (inside x _∈_.first) in

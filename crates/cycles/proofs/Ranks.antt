@@ -1,9 +1,9 @@
--- Classes and relative ranks: what a class number and a relative rank say of rings and of every minimum basis (C2 and C3).
+-- Classes and relative ranks: what a class number and a relative rank say of rings and of every minimum basis.
 use mathlib.Core.Path.{_≡_, refl, sym, _∙_, ap, subst}
 use mathlib.Core.Bool.{Bool, true, false, cond, _&&_}
 use mathlib.Core.List.{List, [], _∷_, _++_, map}
 use mathlib.Core.Logic.{_↔_, _⊎_, inl, inr}
-use Prim.Native.Nat.{ℕ, suc, _+_, _<_}
+use Prim.Native.Nat.{ℕ, zero, suc, _+_, _<_}
 use native.Mathlib.Omega.{arith}
 use native.Mathlib.Decide.{ℕ-discrete}
 use lib.Dec.{T, eqb, eqb→eq, eqb-refl}
@@ -49,7 +49,19 @@ module _ {X : Type 0} where
   at-below At.here = omega arith
   at-below (At.later a) = omega (arith, at-below a)
 
-  at-unique : {xs : List X} {i : ℕ} {x y : X} → At xs i x → At xs i y → x ≡ y
+  -- Below its length a list has something at each place.
+  pub at-exists : (xs : List X) (k : ℕ) → k < length xs → (x : X) × At xs k x
+  at-exists [] k h = absurd (omega arith)
+  at-exists (x ∷ xs) zero h = (x, At.here)
+  at-exists (x ∷ xs) (suc k) h = let (y, a) = at-exists xs k (omega arith) in (y, At.later a)
+
+  -- Each element stands at a place.
+  pub element-at : {x : X} {xs : List X} → x ∈ xs → (k : ℕ) × At xs k x
+  element-at _∈_.first = (0, At.here)
+  element-at (_∈_.later i) = let (k, a) = element-at i in (suc k, At.later a)
+
+  -- One thing stands at a place.
+  pub at-unique : {xs : List X} {i : ℕ} {x y : X} → At xs i x → At xs i y → x ≡ y
   at-unique At.here At.here = refl
   at-unique (At.later a) (At.later b) = at-unique a b
 

@@ -1,4 +1,4 @@
--- Sums of rings shorter than k, and which closed sets they are (R1 and R5).
+-- Sums of rings shorter than k, and which closed sets they are.
 use mathlib.Core.Path.{_≡_, refl, sym, ap, ap₂, _∙_}
 use mathlib.Core.List.{List, [], _∷_, _++_}
 use mathlib.Core.Logic.{_⊎_, inl, inr, ⊎-elim}
@@ -129,12 +129,12 @@ module _ (c : Compound) (sound : Sound c) where
         sum = holds-ext (m c) (Sum bondSets (r .rings)) S (rings-closed c (r .short) .bonds) l (λ j i. r .sum j i ∙ sym (s .is j i));
       }
 
-  -- R5: a closed set that is shorter than k is a sum of rings shorter than k.
+  -- A closed set that is shorter than k is a sum of rings shorter than k.
   pub closed-shorter : {k S : ℕ} → Closed c S → len c S < k → Shorter c k S
   closed-shorter {k} {S} h l =
       graph-shorter (h .bonds) (small-sum (graphOf c) (simple c sound) k (holds S) (closed-graph c sound h) (omega (arith, len-cnt c S)))
 
-  -- R5: a closed set that is no ring is a sum of strictly shorter rings.
+  -- A closed set is a ring or a sum of strictly shorter rings.
   pub ring-or-shorter : {S : ℕ} → Closed c S → Ring c S ⊎ Shorter c (len c S) S
   ring-or-shorter {S} h =
       ⊎-elim

@@ -1,4 +1,4 @@
--- Interchangeable rings: an equivalence, the same as the exchange over the shorter rings, and met by the members of one family (C1).
+-- Interchangeable rings: an equivalence, the same as the exchange over the shorter rings, and met by the members of one family.
 use mathlib.Core.Path.{_≡_, refl, sym, _∙_, ap, subst}
 use mathlib.Core.List.{List}
 use Prim.Native.Nat.{ℕ}

@@ -1,4 +1,4 @@
--- A relevant ring from one of its atoms: its atoms in order, and how far each is (R6 and R7).
+-- A relevant ring from one of its atoms: its atoms in order, and how far each is.
 use mathlib.Core.Path.{_≡_, _∙_}
 use mathlib.Core.List.{List, _∷_}
 use Prim.Native.Nat.{ℕ, suc, _-_, _≤_, _<_, min}

@@ -1,4 +1,4 @@
--- Closed sets and rings over numbers (R1, R3 and R5).
+-- Closed sets and rings over numbers.
 use mathlib.Core.Path.{_≡_, sym, ap₂, _∙_}
 use mathlib.Core.List.{List, [], _∷_, map}
 use Prim.Native.Nat.{ℕ, _^_, _<_}
@@ -19,7 +19,7 @@ use Rattle.graphs.proofs.Lists.{list-ring}
 use Rattle.graphs.proofs.Number.{holds-xor, holds-zero, holds-ext, cnt-bits, num-lt, holds-num}
 
 module _ (G : Graph) where
-  -- R1 over numbers: closed-sum.
+  -- Sums of closed sets are closed, over numbers.
   pub closed-xor : (a b : ℕ) → Closed G (holds a) → Closed G (holds b) → Closed G (holds (bitXor a b))
   closed-xor a b p q = closed-ext G (sum (holds a) (holds b)) (holds (bitXor a b)) (λ k l. sym (holds-xor a b k)) (closed-sum G (holds a) (holds b) p q)
 
@@ -44,7 +44,7 @@ module _ (G : Graph) where
   unfolding toN
   agree-toN R k l = sym (holds-num R (G .m) k l)
 
-  -- R5 over numbers: shorter-sum.
+  -- A closed set that is no ring is a sum of shorter rings, over numbers.
   pub shorterN : Simple G → (N : ℕ) → N < 2 ^ G .m → Closed G (holds N) → (Ring G (holds N) → ⊥)
       → (L : List ℕ) × Each (λ R. (R < 2 ^ G .m) × Ring G (holds R) × (ones R < ones N)) L × (xorAll L ≡ N)
   unfolding toN
@@ -60,7 +60,7 @@ module _ (G : Graph) where
         holds-ext (G .m) (xorAll (map toN (s .rings))) N (xorAll-lt (s .rings)) l (λ k i. holds-map (s .rings) k i ∙ sym (s .is k i)),
       )
 
--- R3 over numbers: list-ring.
+-- A closed list of different atoms is a ring, over numbers.
 pub list-ringN : (G : Graph) → Simple G → (w : ℕ) (l : List ℕ) → CycleList G w l
     → (N : ℕ) × (N < 2 ^ G .m) × Ring G (holds N) × (ones N ≡ length (w ∷ l)) × Agree G (holds N) (cycleSet G w l)
 list-ringN G Z w l h =

@@ -1,4 +1,4 @@
--- A cycle is a ring with as many bonds as atoms (R3).
+-- A cycle is a ring with as many bonds as atoms.
 use mathlib.Core.Path.{_≡_, refl, ap, _∙_, subst}
 use mathlib.Core.Bool.{true, false}
 use mathlib.Core.Logic.{inl, inr, ⊎-elim, _≢_}
@@ -44,7 +44,7 @@ joined-visits G S u (go k w p) h s a v =
     (λ e. joined-step G S k u w a (h .0) (s .0) (h .1) (joined-visits G S w p (h .2) (s .1) a e))
     (or-cases (same u a) (visits w p a) v)
 
--- R3.
+-- The bonds of a cycle: how many they are, and that they are a ring.
 
 pub cycle-size : (G : Graph) (C : Cycle G) → cnt (cset G C) (G .m) ≡ suc (len (C .p))
 cycle-size G C = cnt-flip-new (edges (C .p)) (C .k) (G .m) (C .kIn) (C .fresh) ∙ ap suc (size-eq G (C .w) (C .p) (C .walk) (C .distinct))

@@ -1,4 +1,4 @@
--- A closed set is a ring or a sum of shorter rings, and it is decided which (R5).
+-- A closed set is a ring or a sum of shorter rings, and it is decided which.
 use mathlib.Core.Logic.{_⊎_, inl, inr, ⊎-elim}
 use Prim.Native.Nat.{_≤_, _<_}
 use native.Mathlib.Omega.{arith}

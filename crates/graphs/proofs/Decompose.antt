@@ -1,4 +1,4 @@
--- A closed set is a sum of rings (R5).
+-- A closed set is a sum of rings.
 use mathlib.Core.Path.{_≡_, refl, sym, ap, ap₂, _∙_}
 use mathlib.Core.Bool.{Bool}
 use mathlib.Core.Logic.{⊎-elim}
@@ -58,7 +58,7 @@ join-sums G P S X Y p q h =
       is = λ k l. h k l ∙ ap₂ xor (p .is k l) (q .is k l) ∙ sym (sumAll-app (p .rings) (q .rings) k);
     }
 
--- R5.
+-- Taking away one cycle after another.
 
 module _ (G : Graph) (Z : Simple G) where
   empty-sum : (S : BondSet) → cnt S (G .m) ≤ 0 → SumOf G (λ R. Ring G R × PartOf R S) S

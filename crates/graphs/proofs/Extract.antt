@@ -1,4 +1,4 @@
--- A closed set that is not empty holds a cycle (R4).
+-- A closed set that is not empty holds a cycle.
 use mathlib.Core.Path.{_≡_, refl, sym, ap, _∙_, subst}
 use mathlib.Core.Bool.{true, false, not}
 use mathlib.Core.Logic.{inl, ⊎-elim, _≢_}
@@ -76,7 +76,7 @@ cut G S u (go k w p) x h d s v =
     (λ e. cut-more G S u k w p x h d s (cut G S w p x (h .2) (d .1) (s .1) e))
     (or-cases (same u x) (visits w p x) v)
 
--- R4.
+-- A walk along S that cannot go on without meeting itself closes a cycle.
 
 -- A cycle along bonds of S.
 pub record Found (G : Graph) (S : BondSet) : Type 0 where

@@ -1,4 +1,4 @@
--- Bonds and their ends; closed sets are closed under sums (R1).
+-- Bonds and their ends; closed sets are closed under sums.
 use mathlib.Core.Path.{_≡_, refl, sym, ap, _∙_}
 use mathlib.Core.Bool.{Bool, true, false, _&&_, _||_}
 use mathlib.Core.Logic.{inl, inr, ⊎-elim, _≢_}
@@ -41,7 +41,7 @@ other-end G j v i =
     (λ e. let f : same (G .tgt j) v ≡ true = rw e at i in (G .src j, inr (refl, same-eq (G .tgt j) v f)))
     (both (same (G .src j) v))
 
--- R1: the parity of the degree is linear; closed is of even degree everywhere.
+-- The parity of the degree is linear; closed is of even degree everywhere.
 
 pub par-sum : (G : Graph) (S T : BondSet) (a : ℕ) → par (star G (sum S T) a) (G .m) ≡ xor (par (star G S a) (G .m)) (par (star G T a) (G .m))
 par-sum G S T a =

@@ -1,4 +1,4 @@
--- Rings as lists of atoms (R3 and R6 over lists).
+-- Rings as lists of atoms: a closed list of different atoms is a ring, and a ring is such a list from any of its atoms.
 use mathlib.Core.Path.{_≡_, sym, ap, ap₂, _∙_}
 use mathlib.Core.Bool.{Bool, true, false}
 use mathlib.Core.Logic.{⊎-elim}
@@ -21,7 +21,7 @@ use Rattle.graphs.proofs.Rotate.{RingFrom, ring-from}
 use Rattle.graphs.proofs.AtomList.{steps, steps-walk, steps-last, steps-len, steps-distinct, atoms, atoms-chain, atoms-len, steps-atoms, lastL-atoms}
 use Rattle.graphs.proofs.AtomList.{nodup-atoms, bondOf-is, edgesL-is}
 
--- R3.
+-- From a list of atoms to a ring.
 
 last-head : (x k w : ℕ) (p : Steps) → heads (go k w p) (last x (go k w p)) ≡ true
 last-head x k w end = rw same-refl
@@ -73,7 +73,7 @@ list-ring G Z w l h =
       sym (cnt-ext (cset G C) (cycleSet G w l) (G .m) A) ∙ cycle-size G C ∙ ap suc (steps-len G w l (h .chain)),
     )
 
--- R6.
+-- From a ring to a list of its atoms.
 
 atoms-ends : {G : Graph} (C : Cycle G) → lastL (C .w) (atoms (C .p)) ≡ C .u
 atoms-ends C = lastL-atoms (C .w) (C .p) ∙ C .ends

@@ -1,4 +1,4 @@
--- Along a relevant ring the distances are those of the graph (R7).
+-- Along a relevant ring the distances are those of the graph.
 use mathlib.Core.Path.{_≡_, sym, ap, _∙_}
 use mathlib.Core.Bool.{Bool, false}
 use mathlib.Core.Logic.{⊎-elim}
@@ -74,7 +74,7 @@ shorter-ext G S T h s =
     let e : cnt S (G .m) ≡ cnt T (G .m) = cnt-ext S T (G .m) h in
     record { rings = s .rings; all = rw e at (s .all); is = λ k l. sym (h k l) ∙ s .is k l }
 
--- R7: the distances along a relevant ring are distances in the graph.
+-- The distances along a relevant ring are distances in the graph.
 pub relevant-dist : (G : Graph) → Simple G → (S : BondSet) → Relevant G S → (C : Cycle G) → Agree G (cset G C) S
     → (i : ℕ) → i ≤ len (C .p) → Dist G (C .w) (atom (C .w) (C .p) i) (min i (suc (len (C .p)) - i))
 relevant-dist G Z S rel C A i le =

@@ -1,4 +1,4 @@
--- A ring is a cycle that starts at any of its atoms (R6).
+-- A ring is a cycle that starts at any of its atoms.
 use mathlib.Core.Path.{_≡_, refl, sym, ap, _∙_}
 use mathlib.Core.Bool.{Bool, true, false}
 use mathlib.Core.Logic.{inl, ⊎-elim, _≢_}
@@ -97,8 +97,7 @@ module _ (G : Graph) (Z : Simple G) (S : BondSet) (R : Ring G S) (F : Found G S)
       (λ e. not-true (C k) (λ c. clash (F .within k c) e) ∙ sym e)
       (both (S k))
 
--- R6.
-
+-- A ring is a cycle from any atom that it meets.
 pub ring-from : (G : Graph) → Simple G → (S : BondSet) → Ring G S → (r : ℕ) → 0 < deg G S r → RingFrom G S r
 ring-from G Z S R r h =
     let F : Found G S = has-cycle G Z S (R .closed) (R .some) in

@@ -1,4 +1,4 @@
--- The boundary and the size of a walk (R2).
+-- The boundary and the size of a walk.
 use mathlib.Core.Path.{_≡_, refl, sym, ap, ap₂, _∙_}
 use mathlib.Core.Bool.{true, false}
 use mathlib.Core.Logic.{⊎-elim, _≢_}
@@ -11,7 +11,7 @@ use Rattle.graphs.proofs.Basics.{both, clash, not-true, or-l, or-r, or-
 use Rattle.graphs.proofs.Count.{cnt-none, par-none, flip-keep, cnt-flip-le, cnt-flip-new}
 use Rattle.graphs.proofs.Graph.{joins-inc, joins-at, par-sum, par-flip}
 
--- R2: an atom has odd degree exactly if it is one end of the walk and not the other.
+-- An atom has odd degree exactly if it is one end of the walk and not the other.
 pub boundary : (G : Graph) (u : ℕ) (p : Steps) → IsWalk G u p → (a : ℕ) → par (star G (edges p) a) (G .m) ≡ xor (same u a) (same (last u p) a)
 boundary G u end h a = par-none (G .m) ∙ sym (xor-self (same u a))
 boundary G u (go k w p) h a =

@@ -1,4 +1,4 @@
--- The bench set of the scope document, cases A to L: what the report of each must be, row by row, and that the model gives it.
+-- The bench set of the scope document, cases A to L, and a case beside it: what the report of each must be, row by row, and that the model gives it.
 use mathlib.Core.Path.{_≡_, refl}
 use mathlib.Core.List.{List, [], _∷_}
 use Prim.Native.Nat.{ℕ}
@@ -86,15 +86,35 @@ bench =
     (class 6 3 4 0 ∷ [])
     ∷ []
 
+-- Cases beside the bench set: what none of A to L shows.
+unfoldable pub furtherCases : List Case
+furtherCases =
+    -- Two five-rings share a four-ring: atoms 0 and 2 are joined by way of 1, by way of 5, and by way of 4 and 3, and each two of these ways are a ring.
+    -- So any two of the three rings sum to the third. All three are relevant, since only the four-ring is shorter than a five-ring. By the order of
+    -- the rows the four-ring and the five-ring 0, 1, 2, 3, 4 are marked, and the five-ring 0, 5, 2, 3, 4 is their sum. Every minimum basis has the
+    -- four-ring and one of the five-rings: these two are one class of relative rank 1, and the four-ring is a class of its own, and essential. To join
+    -- classes through the four-ring would put all three into one.
+    case 6 (0 ∷ 1 ∷ 1 ∷ 2 ∷ 0 ∷ 5 ∷ 5 ∷ 2 ∷ 2 ∷ 3 ∷ 3 ∷ 4 ∷ 4 ∷ 0 ∷ []) 2 3 2 9 3
+    (row 4 5 0 2 1 1 0 1 ∷ row 5 4 1 2 255 1 1 1 ∷ row 5 5 3 4 255 0 1 1 ∷ [])
+    (class 4 1 1 1 ∷ class 5 1 2 0 ∷ [])
+    ∷ []
+
 -- `report` with all that it calls open, to be run.
 unfoldable pub computed : Compound → Report
 unfolding trailingZeros single members rowAt putRow reducedBy usedBy reduced used pushedTag pivotOf through each count near1 touch1 readAdj readTouch adjOf touchOf netOf near bond preceding spread wave layer layersInto walk ways start marked labelsIn relabel joined unmarked kept judged link tried above partners oddLoop tipLoop evenLoop seek two topStep tops topLoop lengthLoop lengthRound more numbered classed settled runAll reportBy report
 computed c = report c
 
-abbrev pub All : {X : Type 0} → (X → Type 0) → List X → Type 0
-All P [] = Unit {0}
-All P (x ∷ xs) = P x × All P xs
+-- Each member of the list has P, by computation.
+abbrev pub Each : {X : Type 0} → (X → Type 0) → List X → Type 0
+Each P [] = Unit {0}
+Each P (x ∷ xs) = P x × Each P xs
 
-pub bench-reported : All (λ (k : Case). report (k .compound) ≡ k .expected) bench
+-- The model gives what each case of the bench set says.
+pub bench-reported : Each (λ (k : Case). report (k .compound) ≡ k .expected) bench
 unfolding computed bench
 bench-reported = (refl, (refl, (refl, (refl, (refl, (refl, (refl, (refl, (refl, (refl, (refl, (refl, tt))))))))))))
+
+-- The model gives what each case beside the bench set says.
+pub further-reported : Each (λ (k : Case). report (k .compound) ≡ k .expected) furtherCases
+unfolding computed furtherCases
+further-reported = (refl, tt)

@@ -8,7 +8,7 @@ use Rattle.model.specs.Fold.{through, count}
 use Rattle.model.specs.Net.{near1, readAdj, adjOf, netOf, near}
 use Rattle.model.specs.Layer.{spread, wave}
 use Rattle.model.specs.Fault.{Fault, none, fault, orElse, when, firstOf, someBelow, samePair, bondFault, reached, pieceFault, sizeFault, firstFault}
-use Rattle.model.specs.Bench.{All}
+use Rattle.model.specs.Bench.{Each}
 
 -- An input and what it must get.
 pub record FaultCase : Type 0 where
@@ -65,6 +65,6 @@ unfolding members through count near1 readAdj adjOf netOf near spread wave orEls
 computedFault c = firstFault c
 
 -- The model gives what each case says.
-pub bench-refused : All (λ (k : FaultCase). firstFault (k .compound) ≡ k .expected) faultBench
+pub bench-refused : Each (λ (k : FaultCase). firstFault (k .compound) ≡ k .expected) faultBench
 unfolding computedFault faultBench chain
 bench-refused = (refl, (refl, (refl, (refl, (refl, (refl, (refl, (refl, (refl, (refl, (refl, (refl, (refl, (refl, (refl, (refl, (refl, (refl, (refl, (refl, (refl, (refl, (refl, tt)))))))))))))))))))))))
