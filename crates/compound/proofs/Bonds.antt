@@ -109,6 +109,7 @@ module _ (c : Compound) where
     pub bonds : touch ≡ touchOf c k
     pub joined : (x y : ℕ) → has (getD adj x 0) y ≡ someBelow k (joins x y)
 
+  -- Before the first bond.
   pub sofar-start : Sofar 0 (replicate 64 0) (replicate 128 0)
   unfolding firstOf adjOf touchOf through count someBelow
   sofar-start = record {

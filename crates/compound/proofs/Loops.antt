@@ -19,12 +19,15 @@ module _ {S : Type 0} (step : ℕ → S → S) where
     pub small : x < 2 ^ 64
     pub same : through step (members 64 x) state ≡ through step (members 64 s) start
 
+  -- Before the first turn.
   pub over-start : (s : ℕ) (start : S) → s < 2 ^ 64 → Over s start s start
   over-start s start h = record { small = h; same = refl }
 
+  -- The atom of a turn is an atom.
   pub over-lowest : {s x : ℕ} {start state : S} → 0 < x → Over s start x state → trailingZeros 64 x < 64
   over-lowest {s} {x} pos over = trailing 64 x pos (over .small) .small
 
+  -- After a turn.
   pub over-next : {s x : ℕ} {start state : S} → 0 < x → Over s start x state → Over s start (bitAnd x (x - 1)) (step (trailingZeros 64 x) state)
   unfolding through
   over-next {s} {x} {start} {state} pos over = record {
@@ -32,6 +35,7 @@ module _ {S : Type 0} (step : ℕ → S → S) where
     same = ap (λ (l : List ℕ). through step l state) (sym (members-step 64 x pos (over .small))) ∙ over .same;
   }
 
+  -- Nothing is left: the whole set is done.
   pub over-end : {s x : ℕ} {start state : S} → x ≡ 0 → Over s start x state → state ≡ through step (members 64 s) start
   unfolding through
   over-end {s} {x} {start} {state} e over =
@@ -48,10 +52,12 @@ module _ {S : Type 0} (step : ℕ → S → S) where
   pub record Upto (from : ℕ) (start : S) (i : ℕ) (state : S) : Type 0 where
     pub is : state ≡ through step (count from i) start
 
+  -- Before the first turn.
   pub upto-start : (from : ℕ) (start : S) → Upto from start 0 start
   unfolding through count
   upto-start from start = record { is = refl }
 
+  -- After a turn.
   pub upto-next : {from i j : ℕ} {start state next : S} → j ≡ from + i → next ≡ step j state → Upto from start i state → Upto from start (i + 1) next
   upto-next {from} {i} {j} {start} {state} {next} at e upto = record {
     is =
@@ -59,5 +65,6 @@ module _ {S : Type 0} (step : ℕ → S → S) where
         ∙ sym (ap (λ (k : ℕ). through step (count from k) start) (add-one i) ∙ through-suc from i start);
   }
 
+  -- All turns are done.
   pub upto-end : {from i n : ℕ} {start state : S} → i ≡ n → Upto from start i state → state ≡ through step (count from n) start
   upto-end {from} {i} {n} {start} {state} e upto = upto .is ∙ ap (λ (k : ℕ). through step (count from k) start) e

@@ -49,6 +49,7 @@ module _ (q₀ : List ℕ) (end₀ s : ℕ) where
     pub count : at + lengthTo 64 x ≡ end₀ + lengthTo 64 s
     pub atoms : take at q ++ members 64 x ≡ take end₀ q₀ ++ members 64 s
 
+  -- Before the first atom.
   pub appending-start : s < 2 ^ 64 → Appending q₀ end₀ s
   appending-start h = record { small = h; count = refl; atoms = refl }
 
@@ -57,12 +58,15 @@ module _ (q₀ : List ℕ) (end₀ s : ℕ) where
     length-step =
         lengthTo-members 64 x ∙ ap length (members-step 64 x pos (appending .small)) ∙ ap suc (sym (lengthTo-members 64 (bitAnd x (x - 1))))
 
+    -- What is appended is an atom.
     pub appending-lowest : trailingZeros 64 x < 64
     appending-lowest = trailing 64 x pos (appending .small) .small
 
+    -- There is room for it.
     pub appending-room : at < end₀ + lengthTo 64 s
     appending-room = omega (arith, length-step, appending .count)
 
+    -- One atom more.
     pub appending-next : at < length q → Appending (set q at (trailingZeros 64 x)) (at + 1) (bitAnd x (x - 1))
     appending-next room = record {
       small = omega (arith, and-le-l x (x - 1), appending .small);
@@ -76,6 +80,7 @@ module _ (q₀ : List ℕ) (end₀ s : ℕ) where
           ∙ appending .atoms;
     }
 
+  -- All are appended.
   pub appending-end : {q : List ℕ} {at x : ℕ} → x ≡ 0 → Appending q at x → Appended q₀ end₀ s q at
   appending-end {q} {at} {x} e appending = record {
     count = omega (arith, appending .count, ap (lengthTo 64) e, length-none 64);
@@ -95,6 +100,7 @@ module _ (G : Net) (t : ℕ) (f : Found) (small : f .seen < 2 ^ 64) (near-small 
   pub visit-room : f .end + lengthTo 64 (newAt G t (f .seen)) ≤ 64
   visit-room = omega (arith, length-seen, length-le 64 (bitOr (f .seen) (newAt G t (f .seen))))
 
+  -- What `append` did completes the visit.
   pub visited : (q q′ : List ℕ) (end′ : ℕ) → Appended q (f .end) (newAt G t (f .seen)) q′ end′
       → Visited G t q f q′ (record { seen = bitOr (f .seen) (newAt G t (f .seen)); end = end′ })
   visited q q′ end′ appended = record {
@@ -138,6 +144,7 @@ module _ (G : Net) (q₀ : List ℕ) (from : ℕ) (f : Found) where
     pub grown : f .end ≤ now .end
     pub new : (t : ℕ) → (t ∈ queued q (f .end) (now .end)) ↔ ((bit (now .seen) t ≡ 1) × (bit (f .seen) t ≡ 1 → ⊥))
 
+  -- Before the first atom of the distance.
   pub levelling-start : f .seen < 2 ^ 64 → f .end ≡ lengthTo 64 (f .seen) → Levelling from q₀ f
   levelling-start h full = record {
     kept = refl;
@@ -149,20 +156,23 @@ module _ (G : Net) (q₀ : List ℕ) (from : ℕ) (f : Found) where
     new = λ t. (λ m. absurd (not-in-none (subst (λ (l : List ℕ). t ∈ l) (queued-none q₀ (f .end)) m)), λ p. absurd (p .1 (p .0)));
   }
 
-  module _ (i : ℕ) (q : List ℕ) (now : Found) (levelling : Levelling i q now) (room : 64 ≤ length q) (here : i < f .end) where
+  module _ {i : ℕ} {q : List ℕ} {now : Found} (levelling : Levelling i q now) (room : 64 ≤ length q) (here : i < f .end) where
+    -- The queue is as long as there are atoms at most.
     pub queue-end : f .end ≤ 64
     queue-end = omega (arith, levelling .grown, levelling .count, length-le 64 (now .seen))
 
     -- The atom at place i is that of the queue as it was.
-    pub atom-here : getD q i 0 ≡ getD (take (f .end) q₀) i 0
+    atom-here : getD q i 0 ≡ getD (take (f .end) q₀) i 0
     atom-here = sym (getD-take (f .end) q i 0 here) ∙ ap (λ (l : List ℕ). getD l i 0) (levelling .kept)
 
+    -- The atom at place i is an atom.
     pub atom-named : from ≤ i → 64 ≤ length q₀ → Named q₀ from (f .end) → getD q i 0 < 64
     atom-named h room₀ named =
         let long : length (take (f .end) q₀) ≡ f .end = length-take-le (f .end) q₀ (omega (arith, queue-end)) in
         rw atom-here (named (getD (take (f .end) q₀) i 0) (in-drop (take (f .end) q₀) from i h (omega arith)))
 
-    module _ (room₀ : 64 ≤ length q₀) (q′ : List ℕ) (next : Found) (near-small : nbrs G (getD q i 0) < 2 ^ 64) (visited : Visited G (getD q i 0) q now q′ next) where
+    module _ (room₀ : 64 ≤ length q₀) (q′ : List ℕ) (next : Found) (near-small : nbrs G (getD q i 0) < 2 ^ 64)
+        (visited : Visited G (getD q i 0) q now q′ next) where
       abbrev added : List ℕ
       added = members 64 (newAt G (getD q i 0) (now .seen))
 
@@ -217,6 +227,7 @@ module _ (G : Net) (q₀ : List ℕ) (from : ℕ) (f : Found) where
               (mem-of-bit 64 (newAt G (getD q i 0) (now .seen)) t (lt-of-has 64 (newAt G (getD q i 0) (now .seen)) t (omega (arith, near-small)) r) r))
               (seen-has t .0 (p .0))
 
+      -- One atom more.
       pub levelling-next : next .seen < 2 ^ 64 → Levelling (i + 1) q′ next
       levelling-next small = record {
         kept = kept-next;
@@ -228,9 +239,10 @@ module _ (G : Net) (q₀ : List ℕ) (from : ℕ) (f : Found) where
         new = new-next;
       }
 
-  pub levelling-end : (i : ℕ) (q : List ℕ) (now : Found) → i ≡ f .end → Levelling i q now → Levelled G q₀ from f q now
+  -- All atoms of the distance are looked at.
+  pub levelling-end : {i : ℕ} {q : List ℕ} {now : Found} → i ≡ f .end → Levelling i q now → Levelled G q₀ from f q now
   unfolding through
-  levelling-end i q now e levelling = record { saw = saw; count = levelling .count; grown = levelling .grown; new = levelling .new }
+  levelling-end {i} {q} {now} e levelling = record { saw = saw; count = levelling .count; grown = levelling .grown; new = levelling .new }
     where
       all : now .seen ≡ through (gather G) (queued q₀ from (f .end)) (f .seen)
       all =

@@ -3,7 +3,6 @@ use mathlib.Core.Path.{_≡_, refl, ap}
 use mathlib.Core.List.{List}
 use Prim.Native.Nat.{ℕ, zero, suc}
 use Rattle.cycles.specs.Compound.{Compound, m}
-use Rattle.model.specs.Fold.{through, count}
 use Rattle.model.specs.Net.{Net, near, adjOf, netOf}
 use Rattle.model.specs.Layer.{Wave, spread, wave, layer, layersInto}
 use Rattle.model.specs.Loops.{topStep, tops}
@@ -11,23 +10,28 @@ use Rattle.model.specs.Fault.{reached}
 use Rattle.compound.specs.Nets.{atoms, neighbours}
 
 module _ (G : Net) where
+  -- Neighbours of a set.
   pub near-same : (s : ℕ) → near (neighbours (G .adj)) s ≡ near G s
   unfolding near
   near-same s = refl
 
+  -- The search after d steps.
   pub wave-same : (pre r d : ℕ) → wave (neighbours (G .adj)) pre r d ≡ wave G pre r d
   unfolding wave spread near
   wave-same pre r zero = refl
   wave-same pre r (suc d) = ap (spread G pre) (wave-same pre r d)
 
+  -- One layer.
   pub layer-same : (pre r d : ℕ) → layer (neighbours (G .adj)) pre r d ≡ layer G pre r d
   unfolding layer
   layer-same pre r d = ap (λ (w : Wave). w .under) (wave-same pre r d)
 
+  -- The layers as `layers` writes them.
   pub layersInto-same : (pre r depth : ℕ) (us : List ℕ) → layersInto (neighbours (G .adj)) pre r depth us ≡ layersInto G pre r depth us
   unfolding layersInto
   layersInto-same pre r depth us = simp (layer-same pre r)
 
+  -- The top atoms, which `tops` finds.
   pub tops-same : (pre : ℕ → ℕ) → tops (atoms (G .n) (G .adj)) pre ≡ tops G pre
   unfolding tops topStep
   tops-same pre = refl

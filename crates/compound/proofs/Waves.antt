@@ -21,6 +21,7 @@ and-without s x hs hx =
 pub or-without : (s x : ℕ) → s < 2 ^ 64 → x < 2 ^ 64 → bitOr s (x - bitAnd x s) ≡ s + (x - bitAnd x s)
 or-without s x hs hx = or-disjoint s (x - bitAnd x s) (and-without s x hs hx)
 
+-- The empty set has no neighbours.
 pub near-none : (G : Net) → near G 0 ≡ 0
 unfolding near through
 near-none G = rw (members-zero 64)
@@ -44,5 +45,6 @@ module _ (G : Net) (pre r : ℕ) where
       ⊎-elim (λ (l : d < suc n). done-next _ (wave G pre r n) (done-all d n (omega arith) e))
       (λ (l : suc n ≤ d). let z : d ≡ suc n = omega arith in rw z (record { same = refl; none = rw z at e })) (lt-or-ge d (suc n))
 
+  -- Once the front is empty nothing more is seen.
   pub seen-done : (d n : ℕ) → d ≤ n → (wave G pre r d) .front ≡ 0 → (wave G pre r d) .seen ≡ (wave G pre r n) .seen
   seen-done d n h e = sym (done-all d n h e .same)

@@ -3,53 +3,27 @@ ghost use mathlib.Core.Path.{_≡_};
 ghost use Prim.Native.Nat.{_-_, _^_, _<_, _≤_};
 ghost use lib.Dec.{eqb};
 ghost use lib.ListN.{length};
-ghost use Rattle.model.specs.Layer.{spread, wave, layersInto};
+ghost use Rattle.model.specs.Layer.{wave, layersInto};
 ghost use Rattle.compound.specs.Nets.{neighbours};
-ghost use Rattle.compound.specs.Search.{waveOf, Holds, Further, Goes};
+ghost use Rattle.compound.specs.Search.{Ready, Goes};
 use crate::queue::Found;
-
-/// A search as far as it has come, as sets.
-pub struct Front {
-    /// All atoms seen.
-    pub seen: u64,
-    /// Those at the last distance.
-    pub front: u64,
-    /// Those of them under the atom that the search started at.
-    pub under: u64,
-}
-
-/// One distance further, where only the atoms `pre` can be under the start.
-fn spread(adj: &[u64], pre: u64, w: Front) -> Front
-    requires { ⌜ 64 ≤ length (now adj) ⌝ }
-    ensures { λ r. ⌜ waveOf r ≡ spread (neighbours (now (adj .entry))) pre (waveOf w) ⌝ }
-{
-    let reach = crate::near(adj, w.front);
-    let front = reach - (reach & w.seen);
-    let under = front & crate::near(adj, w.under) & pre;
-    Front {
-        seen: w.seen | front,
-        front,
-        under,
-    }
-}
 
 /// The atoms that a search from atom 0 sees within `n` steps.
 fn reached(n: usize, adj: &[u64]) -> u64
     requires { ⌜ 64 ≤ length (now adj) ⌝ }
     ensures { λ r. ⌜ r ≡ (wave (neighbours (now (adj .entry))) 0 0 n) .seen ⌝ }
 {
-    let mut w = Front {
-        seen: 1,
-        front: 1,
-        under: 1,
-    };
+    let mut seen: u64 = 1;
+    let mut front: u64 = 1;
     for d in 0..n {
-        if w.front == 0 {
-            return w.seen;
+        if front == 0 {
+            return seen;
         }
-        w = spread(adj, 0, w);
+        let reach = crate::near(adj, front);
+        front = reach - (reach & seen);
+        seen |= front;
     }
-    w.seen
+    seen
 }
 
 /// Whether the compound is in one piece: a search from atom 0 sees all its atoms.
@@ -63,53 +37,39 @@ pub fn in_one_piece(n: usize, adj: &[u64]) -> bool
     reached(n, adj) == last - 1 + last
 }
 
-/// A search through a queue.
+/// A search under way: its sets, and where its last atoms stand in the queue.
 pub struct Search {
-    /// Its sets.
-    pub sets: Front,
+    /// All atoms seen.
+    pub seen: u64,
+    /// The atoms at the last distance that are under the start.
+    pub under: u64,
     /// Where the atoms at the last distance begin in the queue.
     pub from: usize,
     /// Where the queue ends.
     pub end: usize,
 }
 
-/// One distance further, through the queue.
-fn further(adj: &[u64], pre: u64, queue: &mut [u8], s: Search) -> Search
-    requires { ⌜ 64 ≤ length (now adj) ⌝ }
-    requires { ⌜ 64 ≤ length (now queue) ⌝ }
-    requires { ⌜ Holds (now queue) s ⌝ }
-    ensures { λ r. ⌜ Further (neighbours (now (adj .entry))) pre s (now (queue .exit)) r ⌝ }
-{
-    let w = s.sets;
-    let seen = w.seen;
-    let end = s.end;
-    let found = crate::queue::level(adj, queue, s.from, Found { seen, end });
-    let front = found.seen - seen;
-    let beside = crate::near(adj, w.under);
-    let sets = Front {
-        seen: found.seen,
-        front,
-        under: front & beside & pre,
-    };
-    Search {
-        sets,
-        from: end,
-        end: found.end,
-    }
-}
-
-/// One distance further while there are atoms under the start; none are beyond a distance at which there are none.
+/// One distance further, through the queue; beyond a distance with no atom under the start there is none, and nothing is done.
 fn next(adj: &[u64], pre: u64, queue: &mut [u8], s: Search) -> Search
     requires { ⌜ 64 ≤ length (now adj) ⌝ }
     requires { ⌜ 64 ≤ length (now queue) ⌝ }
-    requires { ⌜ (0 < s .sets .under → Holds (now queue) s) ⌝ }
+    requires { ⌜ (0 < s .under → Ready (now queue) s) ⌝ }
     ensures { λ r. ⌜ Goes (neighbours (now (adj .entry))) pre (now (queue .entry)) s (now (queue .exit)) r ⌝ }
 {
-    let w = s.sets;
-    if w.under == 0 {
+    if s.under == 0 {
         return s;
     }
-    further(adj, pre, queue, s)
+    let seen = s.seen;
+    let end = s.end;
+    let found = crate::queue::level(adj, queue, s.from, Found { seen, end });
+    let front = found.seen - (found.seen & seen);
+    let beside = crate::near(adj, s.under);
+    Search {
+        seen: found.seen,
+        under: front & beside & pre,
+        from: end,
+        end: found.end,
+    }
 }
 
 /// Writes the layers 0 to `depth` under `r`: the atoms at each distance from `r` that are under it, where only the atoms `pre` precede `r`.
@@ -122,20 +82,15 @@ pub fn layers(adj: &[u64], pre: u64, r: usize, depth: usize, layers: &mut [u64])
     let mut queue = [0u8; 64];
     queue[0] = r as u8;
     let start = 1u64 << r;
-    let sets = Front {
-        seen: start,
-        front: start,
-        under: start,
-    };
     let mut s = Search {
-        sets,
+        seen: start,
+        under: start,
         from: 0,
         end: 1,
     };
     layers[0] = start;
     for d in 0..depth {
         s = next(adj, pre, &mut queue, s);
-        let w = s.sets;
-        layers[d + 1] = w.under;
+        layers[d + 1] = s.under;
     }
 }

@@ -18,14 +18,14 @@ abbrev μ-loop : tie.MeasureT-loop
 loop-holds : tie.Need-loop-holds Inv-loop μ-loop
 loop-holds c =
     let s = c .before .before in
-    (omega arith, s .pre .1 .1 .0, refl, levelling-start (neighbours (s .args .adj .now)) (s .args .queue .now) (s .args .from) (s .args .f) (omega arith) (s .pre .1 .1 .1 .0))
+    (omega arith, s .pre .1 .1 .0, refl, levelling-start _ _ _ (s .args .f) (omega arith) (s .pre .1 .1 .1 .0))
 
 slice-read-t : tie.Need-slice-read-t Inv-loop μ-loop
 slice-read-t c =
     let l = c .before .before .loop in
     let s = c .before .before .before .before .before in
     let room : 64 ≤ length (l .queue) = omega (arith, l .inv .2, s .pre .1 .0) in
-    let few = queue-end _ _ _ (s .args .f) (l .i) (l .queue) (l .g) (l .inv .3) room (c .before .loop-test .taken) in
+    let few = queue-end _ _ _ _ (l .inv .3) room (c .before .loop-test .taken) in
     omega (arith, few, c .before .loop-test .taken, room)
 
 cast-t : tie.Need-cast-t Inv-loop μ-loop
@@ -41,7 +41,7 @@ visit-requires c κs =
       (
         room,
         (
-          atom-named _ _ _ (s .args .f) (l .i) (l .queue) (l .g) (l .inv .3) room (b .loop-test .taken) (l .inv .0) (s .pre .1 .0) (s .pre .1 .1 .1 .1),
+          atom-named _ _ _ _ (l .inv .3) room (b .loop-test .taken) (l .inv .0) (s .pre .1 .0) (s .pre .1 .1 .1 .1),
           l .inv .3 .count,
         ),
       ),
@@ -64,7 +64,7 @@ loop-again c =
       omega (arith, l .inv .0),
       omega (arith, b .loop-test .taken),
       v .visit .kept .1 .0 ∙ l .inv .2,
-      levelling-next (neighbours (s .args .adj .now)) (s .args .queue .now) (s .args .from) (s .args .f) (l .i) (l .queue) (l .g) (l .inv .3) room (b .loop-test .taken)
+      levelling-next _ _ _ _ (l .inv .3) room (b .loop-test .taken)
           (s .pre .1 .0) _ (v .visit .result) (b .before .before .before .shared-slice-known .given t .fits) (v .visit .ensures) (omega (arith, v .visit .ok)),
     )
 
@@ -74,8 +74,7 @@ same-length c = c .before .loop .inv .2
 returns : tie.Need-returns Inv-loop μ-loop
 returns c =
     let l = c .before .loop in
-    let s = c .before .before .before .before in
-    levelling-end (neighbours (s .args .adj .now)) (s .args .queue .now) (s .args .from) (s .args .f) (l .i) (l .queue) (l .g) (omega (arith, l .inv .1, c .loop-test .left)) (l .inv .3)
+    levelling-end _ _ _ _ (omega (arith, l .inv .1, c .loop-test .left)) (l .inv .3)
 
 pub level-spec : {M : Type 1} → statement M
 level-spec =

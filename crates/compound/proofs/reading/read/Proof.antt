@@ -97,7 +97,8 @@ loop-again c =
       search needs,
       search needs,
       rw (add-one, e .add .ensures .0, e .add .ensures .1)
-          (sofar-next _ (l .k) (l .adj) (l .touch) (l .inv .3) (omega (arith, named .0)) (omega (arith, named .1)) (fine ∙ sofar-fault _ (l .k) (l .adj) (l .touch) (l .inv .3))),
+          (sofar-next _ (l .k) (l .adj) (l .touch) (l .inv .3) (omega (arith, named .0)) (omega (arith, named .1))
+          (fine ∙ sofar-fault _ (l .k) (l .adj) (l .touch) (l .inv .3))),
     )
 
 same-length-3 : tie.Need-same-length-3 Inv-loop μ-loop

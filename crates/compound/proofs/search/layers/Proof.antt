@@ -49,7 +49,7 @@ next-requires : tie.Need-next-requires Inv-loop μ-loop
 next-requires c κs =
     let l = c .before .before .loop in
     let s = c .before .before .before .before .before in
-    (s .pre .1 .0, (omega (arith, l .inv .2), l .inv .3 .holds))
+    (s .pre .1 .0, (omega (arith, l .inv .2), l .inv .3 .ready))
 
 add-layers : tie.Need-add-layers Inv-loop μ-loop
 add-layers c = search needs
@@ -59,7 +59,7 @@ mul-layers c = search needs
 
 slice-write-layers-2 : tie.Need-slice-write-layers-2 Inv-loop μ-loop
 slice-write-layers-2 c =
-    let b = c .before .before .before .before in
+    let b = c .before .before .before in
     let l = b .before .loop in
     let s = b .before .before .before .before in
     let long : length (l .layers) ≡ length (s .args .layers .now) = l .inv .1 ∙ simp length-set in
@@ -73,8 +73,8 @@ loop-less c = search needs
 
 loop-again : tie.Need-loop-again Inv-loop μ-loop
 loop-again c =
-    let b = c .before .before .before .before in
-    let v = c .before .before in
+    let b = c .before .before .before in
+    let v = c .before in
     let l = b .before .loop in
     let s = b .before .before .before .before in
     let next = v .next .ensures (s .args .r) (l .d) (l .inv .3) in (
@@ -82,7 +82,7 @@ loop-again c =
       simp length-set (simp length-set at (l .inv .1)),
       v .next .kept .1 .1 .0 ∙ l .inv .2,
       rw add-one next,
-      upto-next _ (omega arith) (ap (set (l .layers) (l .d + 1)) (next .under ∙ ap (layer (neighbours (s .args .adj .now)) (s .args .pre) (s .args .r)) (sym (add-one (l .d))))) (l .inv .4),
+      upto-next _ (omega arith) (ap (set (l .layers) (l .d + 1)) (rw add-one (next .under))) (l .inv .4),
     )
 
 same-length : tie.Need-same-length Inv-loop μ-loop
@@ -96,7 +96,8 @@ returns c =
     let l = c .before .loop in
     let a = c .before .before .before .before .args in
     let step : ℕ → List ℕ → List ℕ = λ i us. set us i (layer (neighbours (a .adj .now)) (a .pre) (a .r) i) in
-    upto-end _ {n = a .depth} (omega arith) (l .inv .4) ∙ ap (λ (x : ℕ). through step (count 1 (a .depth)) (set (a .layers .now) 0 x)) (one-shl (a .r) (omega arith))
+    upto-end _ {n = a .depth} (omega arith) (l .inv .4)
+    ∙ ap (λ (x : ℕ). through step (count 1 (a .depth)) (set (a .layers .now) 0 x)) (one-shl (a .r) (omega arith))
 
 pub layers-spec : {M : Type 1} → statement M
 layers-spec =

@@ -1,35 +1,39 @@
 -- The search after d steps; one whose front is empty has seen all that it will see.
-use mathlib.Core.Path.{_≡_, refl, sym, ap, _∙_}
-use Prim.Native.Nat.{_-_, _≤_}
+use mathlib.Core.Path.{_≡_, refl, sym, ap, ap₂, _∙_}
+use Prim.Native.Nat.{ℕ, _+_, _-_, _^_, _≤_, _<_}
 use native.Mathlib.Numerals.{add-one}
 use native.Mathlib.Omega.{arith}
+use lib.Bits.{bitAnd, and-le-l, or-lt}
 use borrow.Author.Needs.{needs}
-use Rattle.model.specs.Layer.{Wave, spread, wave}
+use Rattle.model.specs.Net.{near}
+use Rattle.model.specs.Layer.{spread, wave}
 use Rattle.compound.specs.Nets.{neighbours}
-use Rattle.compound.specs.Search.{waveOf}
-use Rattle.compound.proofs.Waves.{seen-done}
+use Rattle.compound.proofs.Waves.{or-without, seen-done}
 use Rattle.compound.proofs.search.reached.Statement.{statement}
 use Rattle.compound.proofs.search.reached.Tie as tie
 
 abbrev Inv-loop : tie.InvT-loop
-Inv-loop n adj w₀ d₀ w d = (d ≤ n) × (waveOf w ≡ wave (neighbours adj) 0 0 d)
+Inv-loop n adj seen₀ front₀ d₀ seen front d =
+    (d ≤ n) × (seen < 2 ^ 64) × (seen ≡ (wave (neighbours adj) 0 0 d) .seen) × (front ≡ (wave (neighbours adj) 0 0 d) .front)
 
 abbrev μ-loop : tie.MeasureT-loop
-μ-loop n adj w₀ d₀ w d = n - d
+μ-loop n adj seen₀ front₀ d₀ seen front d = n - d
 
 loop-holds : tie.Need-loop-holds Inv-loop μ-loop
 unfolding wave
-loop-holds c = (omega arith, refl)
+loop-holds c = (omega arith, omega arith, refl, refl)
 
 returns : tie.Need-returns Inv-loop μ-loop
 returns c =
-    let l = c .before .before .before .loop in
-    let a = c .before .before .before .before .before .args in
-    ap (λ (w : Wave). w .seen) (l .inv .1)
-    ∙ seen-done (neighbours (a .adj .now)) 0 0 (l .d) (a .n) (omega arith) (sym (ap (λ (w : Wave). w .front) (l .inv .1)) ∙ c .if1 .taken)
+    let l = c .before .before .loop in
+    let a = c .before .before .before .before .args in
+    l .inv .2 ∙ seen-done (neighbours (a .adj .now)) 0 0 (l .d) (a .n) (omega arith) (sym (l .inv .3) ∙ c .if1 .taken)
 
-spread-requires : tie.Need-spread-requires Inv-loop μ-loop
-spread-requires c κs = search needs
+near-requires : tie.Need-near-requires Inv-loop μ-loop
+near-requires c κs = search needs
+
+sub-front : tie.Need-sub-front Inv-loop μ-loop
+sub-front c = and-le-l (c .near .result) (c .before .before .before .loop .seen)
 
 add-d : tie.Need-add-d Inv-loop μ-loop
 add-d c = search needs
@@ -38,18 +42,27 @@ loop-less : tie.Need-loop-less Inv-loop μ-loop
 loop-less c = search needs
 
 loop-again : tie.Need-loop-again Inv-loop μ-loop
-unfolding wave
+unfolding wave spread
 loop-again c =
-    let l = c .before .before .before .before .loop in
-    let a = c .before .before .before .before .before .before .args in
-    (omega arith, rw add-one (c .spread .ensures ∙ ap (spread (neighbours (a .adj .now)) 0) (l .inv .1)))
+    let l = c .before .before .before .loop in
+    let a = c .before .before .before .before .before .args in
+    let reach = c .near .result in
+    let small : reach < 2 ^ 64 = omega (arith, c .near .ok) in
+    let same : reach ≡ near (neighbours (a .adj .now)) ((wave (neighbours (a .adj .now)) 0 0 (l .d)) .front) =
+    c .near .ensures ∙ ap (near (neighbours (a .adj .now))) (l .inv .3) in
+    let front = ap₂ (λ (x y : ℕ). x - bitAnd x y) same (l .inv .2) in (
+      omega (arith, c .before .before .loop-test .taken),
+      or-lt 64 (l .seen) (reach - bitAnd reach (l .seen)) (l .inv .1) (omega arith),
+      rw add-one (or-without (l .seen) reach (l .inv .1) small ∙ ap₂ (λ (x y : ℕ). x + y) (l .inv .2) front),
+      rw add-one front,
+    )
 
 returns-2 : tie.Need-returns-2 Inv-loop μ-loop
 returns-2 c =
     let l = c .before .loop in
     let a = c .before .before .before .args in
     let e : l .d ≡ a .n = omega arith in
-    ap (λ (w : Wave). w .seen) (l .inv .1 ∙ ap (wave (neighbours (a .adj .now)) 0 0) e)
+    l .inv .2 ∙ ap (λ (d : ℕ). (wave (neighbours (a .adj .now)) 0 0 d) .seen) e
 
 pub reached-spec : {M : Type 1} → statement M
 reached-spec =
@@ -59,7 +72,8 @@ reached-spec =
     μ-loop
     loop-holds
     returns
-    spread-requires
+    near-requires
+    sub-front
     add-d
     loop-less
     loop-again
