@@ -1,0 +1,1 @@
+// The ledger: definitions.
