@@ -4,7 +4,7 @@ use mathlib.Core.Bool.{cond}
 use mathlib.Core.List.{List, [], _∷_, _++_, append-assoc, append-nil}
 use mathlib.Core.Logic.{⊎-elim}
 use Prim.Native.Nat.{ℕ, zero, suc, _+_, _-_, _*_, _/_, _<_, _≤_}
-use native.Mathlib.Nat.{mul-zero, mul-suc, suc-add}
+use native.Mathlib.Nat.{mul-zero, mul-suc, zero-add, suc-add}
 use native.Mathlib.Omega.{arith}
 use borrow.Author.Tests.{lt-ltb, le-ltb}
 use lib.Dec.{ltb}
@@ -20,7 +20,7 @@ each-append f [] ys = refl
 each-append f (x ∷ xs) ys = rw (each-append f xs ys) (sym (append-assoc (f x) (each f xs) (each f ys)))
 
 set-append-add : {X : Type 0} (xs ys : List X) (n : ℕ) (v : X) → set (xs ++ ys) (length xs + n) v ≡ xs ++ set ys n v
-set-append-add [] ys n v = refl
+set-append-add [] ys n v = rw (zero-add n)
 set-append-add (x ∷ xs) ys n v = rw (suc-add (length xs) n, set-append-add xs ys n v)
 
 -- Bytes that fit keep the buffer's length.
@@ -93,6 +93,7 @@ module _ {X : Type 0} (w : ℕ) (bytes : X → List ℕ) (wide : (x : X) → len
 
   -- One row more.
   pub laid-next : (lent : List ℕ) (rows : List X) (x : X) → put w bytes (laid w bytes lent rows) (length rows) x ≡ laid w bytes lent (rows ++ (x ∷ []))
+  unfolding each
   laid-next lent rows x =
       rw (length-laid lent rows)
       (⊎-elim (λ (h : length rows < length lent / w). rw (lt-ltb (length rows) (length lent / w) h) (inside h))
@@ -100,7 +101,6 @@ module _ {X : Type 0} (w : ℕ) (bytes : X → List ℕ) (wide : (x : X) → len
       (lt-or-ge (length rows) (length lent / w)))
     where
       inside : length rows < length lent / w → paste (laid w bytes lent rows) (w * length rows) (bytes x) w ≡ laid w bytes lent (rows ++ (x ∷ []))
-      unfolding each
       inside h =
           let more : length (rows ++ (x ∷ [])) ≤ length lent / w = rw (length-append rows (x ∷ [])) (omega arith) in
           rw (laid-all lent rows (omega arith), laid-all lent (rows ++ (x ∷ [])) more, each-append bytes rows (x ∷ []), append-nil (bytes x))
@@ -117,10 +117,10 @@ module _ {X : Type 0} (w : ℕ) (bytes : X → List ℕ) (wide : (x : X) → len
         ap (λ (n : ℕ). over (each bytes (take n (A ++ x ∷ B))) lent) split
         ∙ rw (take-append-add A (x ∷ B) (suc (length lent / w - suc i)), each-append bytes A (x ∷ later))
 
-    middle : X → List ℕ → List ℕ
-    middle x b = each bytes A ++ (b ++ (each bytes later ++ drop (length (each bytes A) + (w + length (each bytes later))) lent))
+    middle : List ℕ → List ℕ
+    middle b = each bytes A ++ (b ++ (each bytes later ++ drop (length (each bytes A) + (w + length (each bytes later))) lent))
 
-    laid-middle : (x : X) → i < length lent / w → laid w bytes lent (A ++ x ∷ B) ≡ middle x (bytes x)
+    laid-middle : (x : X) → i < length lent / w → laid w bytes lent (A ++ x ∷ B) ≡ middle (bytes x)
     unfolding middle
     laid-middle x h = laid-mid x h ∙ over-mid (each bytes A) (bytes x) (each bytes later) lent ∙ rw (wide x)
 
