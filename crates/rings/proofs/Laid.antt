@@ -9,7 +9,7 @@ use native.Mathlib.Omega.{arith}
 use borrow.Author.Tests.{lt-ltb, le-ltb}
 use lib.Dec.{ltb}
 use lib.ListN.{length, getD, take, drop, set, length-append, length-drop, length-take, List·getD-append}
-use lib.Seq.{paste, take-all, take-at, drop-at, drop-drop, drop-append-add, take-append-le, take-append-add, getD-append-add, set-append-left}
+use lib.Seq.{paste, take-all, take-nil, take-at, drop-at, drop-drop, drop-append-add, take-append-le, take-append-add, getD-append-add, set-append-left}
 use Rattle.bondset.proofs.Laws.{lt-or-ge}
 use Rattle.answers.specs.Answered.{over}
 use Rattle.model.specs.Fold.{each}
@@ -80,6 +80,11 @@ module _ {X : Type 0} (w : ℕ) (bytes : X → List ℕ) (wide : (x : X) → len
       let kept : List X = take (length lent / w) rows in
       length-over (each bytes kept) lent
       (rw (length-each kept) (room (length kept) (length lent) (omega (arith, length-take (length lent / w) rows))))
+
+  -- Without rows the buffer is as lent.
+  pub laid-none : (lent : List ℕ) → laid w bytes lent [] ≡ lent
+  unfolding laid each over
+  laid-none lent = rw (take-nil {A = X} (length lent / w))
 
   -- Where all rows fit they are all there.
   pub laid-all : (lent : List ℕ) (rows : List X) → length rows ≤ length lent / w → laid w bytes lent rows ≡ over (each bytes rows) lent

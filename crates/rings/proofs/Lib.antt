@@ -1,2 +1,4 @@
 pub mod Laid
 pub mod Keeps
+pub mod Sizes
+pub mod Steps
