@@ -2,3 +2,5 @@ pub mod Laid
 pub mod Keeps
 pub mod Sizes
 pub mod Steps
+pub mod Rows
+pub mod Report
