@@ -126,6 +126,11 @@ span-snoc S M w s = rw append-assoc at (left-of bondSets (w ∷ []) s)
 snoc-span : (S M : List ℕ) (w : ℕ) → Span bondSets (S ++ (M ++ (w ∷ []))) w
 snoc-span S M w = subst (λ (xs : List ℕ). Span bondSets xs w) (append-assoc S M (w ∷ [])) (right-of bondSets (S ++ M) (head bondSets))
 
+-- There is room for the candidate if it is to be marked.
+abbrev pub Fits : Try → State → Type 0
+Fits t st =
+    (restShort (t .ring) st ≡ 0 → ⊥) → (reduced (st .rows) (st .pivots) (st .short) (st .marks) (restShort (t .ring) st) ≡ 0 → ⊥) → st .marks < 82
+
 module _ (c : Compound) (rank pre : ℕ → ℕ) (ready : Ready c rank pre) where
   -- Every relevant ring of length k is an event's prototype, up to shorter rings.
   abbrev pub NearEvents : ℕ → List Event → Type 0
@@ -189,11 +194,6 @@ module _ (c : Compound) (rank pre : ℕ → ℕ) (ready : Ready c rank pre) wher
     pub table : after .table ≡ st .table
 
   -- ---- one candidate
-
-  -- There is room for the candidate if it is to be marked.
-  abbrev pub Fits : Try → State → Type 0
-  Fits t st =
-      (restShort (t .ring) st ≡ 0 → ⊥) → (reduced (st .rows) (st .pivots) (st .short) (st .marks) (restShort (t .ring) st) ≡ 0 → ⊥) → st .marks < 82
 
   -- Among the candidates: M are the rings of the length in hand that are marked so far.
   record Mid (S M : List ℕ) (st : State) : Type 0 where

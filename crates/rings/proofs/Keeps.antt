@@ -68,8 +68,18 @@ rowsOf st = length (st .done) + length (st .here)
 abbrev pub ledgerOf : List ℕ → State → List ℕ → Ledger
 ledgerOf table₀ st out =
     record {
-      marks = st .marks; short = st .short; families = word (rowsOf st); classes = length (st .table); total = st .total; rows = st .rows; tags = st .tags;
-      pivots = st .pivots; labels = st .labels; holds = map word (st .holds); out = out; table = writtenClasses table₀ (st .table);
+      marks = st .marks;
+      short = st .short;
+      families = word (rowsOf st);
+      classes = length (st .table);
+      total = st .total;
+      rows = st .rows;
+      tags = st .tags;
+      pivots = st .pivots;
+      labels = st .labels;
+      holds = map word (st .holds);
+      out = out;
+      table = writtenClasses table₀ (st .table);
     }
 
 -- The ledger is the state's, and its rows are over the buffer if there are fewer than 2^64.
@@ -293,10 +303,12 @@ module _ (out₀ labels : List ℕ) where
             length-map (take n here) (classed labels),
             length-take n here,
           ) in
-          rw (← append-assoc done (map (classed labels) (take n here)) (drop n here),
-          ← append-assoc done (map (classed labels) (take n here)) (map (classed labels) (drop n here)),
-          laid-out 8 rowBytes row-wide room-8 out₀ (done ++ map (classed labels) (take n here)) (drop n here) full,
-          laid-out 8 rowBytes row-wide room-8 out₀ (done ++ map (classed labels) (take n here)) (map (classed labels) (drop n here)) full))
+          rw (
+            ← append-assoc done (map (classed labels) (take n here)) (drop n here),
+            ← append-assoc done (map (classed labels) (take n here)) (map (classed labels) (drop n here)),
+            laid-out 8 rowBytes row-wide room-8 out₀ (done ++ map (classed labels) (take n here)) (drop n here) full,
+            laid-out 8 rowBytes row-wide room-8 out₀ (done ++ map (classed labels) (take n here)) (map (classed labels) (drop n here)) full,
+          ))
           (λ (h : length here ≤ n). rw (drop-of-length-le here h))
           (lt-or-ge n (length here))
 
@@ -341,6 +353,12 @@ keeps-settled {out₀} {table₀} {st} {L} k first e keeps =
     patches h =
         let few : rowsOf st < 2 ^ 64 = omega (arith, rows-kept) in
         let begin : first ≡ length (st .done) = e ∙ mod-eq-of-lt (omega arith) in
-        rw (same, keeps .out few, begin, mod-eq-of-lt few, length-laid 8 rowBytes row-wide room-8 out₀ (st .done ++ st .here),
-        append-nil (st .done ++ map (classed (numbering .labels)) (st .here)))
+        rw (
+          same,
+          keeps .out few,
+          begin,
+          mod-eq-of-lt few,
+          length-laid 8 rowBytes row-wide room-8 out₀ (st .done ++ st .here),
+          append-nil (st .done ++ map (classed (numbering .labels)) (st .here)),
+        )
         (patch-all out₀ (numbering .labels) (st .done) (st .here))

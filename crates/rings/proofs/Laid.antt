@@ -3,7 +3,7 @@ use mathlib.Core.Path.{_≡_, refl, sym, ap, _∙_}
 use mathlib.Core.Bool.{cond}
 use mathlib.Core.List.{List, [], _∷_, _++_, append-assoc, append-nil}
 use mathlib.Core.Logic.{⊎-elim}
-use Prim.Native.Nat.{ℕ, zero, suc, _+_, _-_, _*_, _/_, _<_, _≤_}
+use Prim.Native.Nat.{ℕ, suc, _+_, _-_, _*_, _/_, _<_, _≤_}
 use native.Mathlib.Nat.{mul-zero, mul-suc, zero-add, suc-add}
 use native.Mathlib.Omega.{arith}
 use borrow.Author.Tests.{lt-ltb, le-ltb}
@@ -14,7 +14,7 @@ use Rattle.bondset.proofs.Laws.{lt-or-ge}
 use Rattle.answers.specs.Answered.{over}
 use Rattle.model.specs.Fold.{each}
 
-pub each-append : {X Y : Type 0} (f : X → List Y) (xs ys : List X) → each f (xs ++ ys) ≡ each f xs ++ each f ys
+each-append : {X Y : Type 0} (f : X → List Y) (xs ys : List X) → each f (xs ++ ys) ≡ each f xs ++ each f ys
 unfolding each
 each-append f [] ys = refl
 each-append f (x ∷ xs) ys = rw (each-append f xs ys) (sym (append-assoc (f x) (each f xs) (each f ys)))
@@ -48,8 +48,15 @@ paste-next : (P b lent : List ℕ) (at w : ℕ) → length P ≡ at → length b
 unfolding over
 paste-next P b lent at w before e =
     let all : length b ≤ w = omega arith in
-    rw (← before, take-at P (drop (length P) lent) (length P) refl, take-all w b all, drop-append-add P (drop (length P) lent) w, drop-drop w (length P) lent,
-    length-append P b, e)
+    rw (
+      ← before,
+      take-at P (drop (length P) lent) (length P) refl,
+      take-all w b all,
+      drop-append-add P (drop (length P) lent) w,
+      drop-drop w (length P) lent,
+      length-append P b,
+      e,
+    )
 
 -- The middle of the bytes over a buffer.
 over-mid : (P b Q lent : List ℕ) → over (P ++ (b ++ Q)) lent ≡ P ++ (b ++ (Q ++ drop (length P + (length b + length Q)) lent))

@@ -1,5 +1,5 @@
 -- The engine's run over the atoms and bonds of an accepted compound leaves the bytes of the right report.
-use mathlib.Core.Path.{_≡_, refl, sym, ap, _∙_}
+use mathlib.Core.Path.{_≡_, ap, _∙_}
 use mathlib.Core.List.{List, [], _∷_, _++_, map, append-nil}
 use Prim.Native.Nat.{ℕ, _+_, _-_, _/_, _^_, _<_, _≤_}
 use native.Mathlib.Nat.{mod-eq-of-lt}
@@ -19,7 +19,7 @@ use Rattle.paths.specs.Counts.{counted}
 use Rattle.ledger.specs.Ledger.{Ledger}
 use Rattle.rings.specs.Engine.{most, Engine, runBy}
 use Rattle.rings.proofs.Laid.{length-laid, laid-all}
-use Rattle.rings.proofs.Keeps.{word, writtenRows, writtenClasses, rowBytes, classRowBytes, row-wide, class-wide, room-8, room-5}
+use Rattle.rings.proofs.Keeps.{writtenRows, writtenClasses, rowBytes, classRowBytes, row-wide, class-wide, room-8, room-5}
 use Rattle.rings.proofs.Sizes.{writtenSizes, written-one}
 use Rattle.rings.proofs.Steps.{Holds, run-holds}
 use Rattle.rings.proofs.Rows.{Small, kept-small, ascending-few, each-rows, each-classes, marks-many}

@@ -1,15 +1,14 @@
 -- The rows of a right report: fewer than 2^64, and in the bytes of a class row no number is cut off.
-use mathlib.Core.Path.{_≡_, refl, sym, ap, ap₂, _∙_}
+use mathlib.Core.Path.{_≡_, refl}
 use mathlib.Core.Bool.{Bool, true, false, cond, _&&_}
-use mathlib.Core.List.{List, [], _∷_, _++_, map}
+use mathlib.Core.List.{List, [], _∷_}
 use Prim.Native.Nat.{ℕ, suc, _+_, _*_, _/_, _%_, _^_, _<_, _≤_}
 use native.Mathlib.Nat.{mod-eq-of-lt}
 use native.Mathlib.Omega.{arith}
 use lib.Dec.{eqb}
-use lib.ListN.{length, length-append, length-map}
-use Rattle.spans.specs.Elements.{_∈_}
+use lib.ListN.{length, length-append}
 use Rattle.spans.specs.Basis.{All}
-use Rattle.cycles.specs.Compound.{Compound, Joins}
+use Rattle.cycles.specs.Compound.{Compound}
 use Rattle.cycles.specs.Family.{Family, Candidate, Kept}
 use Rattle.cycles.specs.Rows.{Row, ClassRow, key, Less, Ascending, howMany, classRow, classRows, Marks}
 use Rattle.cycles.proofs.PathsDecide.{joins-sym}

@@ -1,30 +1,26 @@
 -- The engine goes along with the model: candidate by candidate, length by length, through all rounds.
 use mathlib.Core.Path.{_≡_, refl, sym, ap, _∙_, subst}
 use mathlib.Core.Bool.{Bool, true, false, cond}
-use mathlib.Core.List.{List, [], _∷_, _++_, map, map-append, map-map, append-assoc, append-nil}
-use mathlib.Core.Logic.{⊎-elim}
+use mathlib.Core.List.{List, [], _∷_, _++_, map, map-append, append-assoc, append-nil}
 use Prim.Native.Nat.{ℕ, zero, suc, _+_, _-_, _*_, _/_, _^_, _<_, _≤_}
 use native.Mathlib.Nat.{mod-eq-of-lt}
 use native.Mathlib.Numerals.{add-one}
 use native.Mathlib.Omega.{arith}
-use borrow.Author.Tests.{lt-ltb, le-ltb, eqb-true, eqb-false, eq-eqb}
+use borrow.Author.Tests.{lt-ltb, le-ltb, eqb-false}
 use lib.Dec.{eqb, ltb}
 use lib.ListN.{length, replicate, length-append, length-map}
-use lib.Seq.{take-nil}
 use Rattle.bondset.specs.Reduction.{reduced, used}
-use Rattle.bondset.proofs.Laws.{lt-or-ge}
 use Rattle.cycles.specs.Compound.{Compound, cyclomatic}
 use Rattle.cycles.specs.Family.{Family}
 use Rattle.cycles.specs.Rows.{Row}
-use Rattle.answers.specs.Answered.{over}
-use Rattle.model.specs.Fold.{through, each, count}
+use Rattle.model.specs.Fold.{through, count}
 use Rattle.model.specs.Net.{Net, netOf, preceding}
 use Rattle.model.specs.State.{State, start, marked, unmarked, kept, judged, tried}
 use Rattle.model.specs.Loops.{Running, running, lengthLoop, lengthRound}
-use Rattle.model.specs.Run.{Numbering, Run, classed, settled, round, runAll}
+use Rattle.model.specs.Run.{Run, classed, settled, round, runAll}
 use Rattle.model.proofs.Ready.{Ready}
 use Rattle.model.proofs.Related.{length-related}
-use Rattle.model.proofs.Items.{Try, judge, tryAt, tries, tries-items, loop-tries}
+use Rattle.model.proofs.Items.{Try, judge, tries, tries-items, loop-tries}
 use Rattle.model.proofs.Trace.{Fits, length-along}
 use Rattle.model.proofs.Meets.{Reached, round-reached, run-reached}
 use Rattle.paths.specs.declared.counting.Count.{Count}
@@ -32,8 +28,8 @@ use Rattle.paths.specs.Counts.{added, counted}
 use Rattle.paths.proofs.Added.{added-counted, counted-none}
 use Rattle.ledger.specs.Ledger.{Ledger}
 use Rattle.rings.specs.Engine.{most, Engine, putSize, keptBy, attempted, settledBy, begun, roundBy, runBy}
-use Rattle.rings.proofs.Laid.{laid, laid-none}
-use Rattle.rings.proofs.Keeps.{word, rowsOf, ledgerOf, Keeps, keeps-kept, keeps-settled, rowBytes, classRowBytes, row-wide, class-wide, room-8, room-5}
+use Rattle.rings.proofs.Laid.{laid-none}
+use Rattle.rings.proofs.Keeps.{word, rowsOf, Keeps, keeps-kept, keeps-settled, rowBytes, classRowBytes, row-wide, class-wide, room-8, room-5}
 use Rattle.rings.proofs.Sizes.{writtenFrom, writtenSizes, written-none, length-putSize, size-next}
 
 -- The engine holds what the model's state says: the ledger, the count of rings, and, if the rings do not exceed the count and the rows are fewer
@@ -126,10 +122,8 @@ record During (out₀ table₀ sizes₀ : List ℕ) (from : ℕ) (D : List Row) 
   done : st .done ≡ D
 
 module _ {out₀ table₀ sizes₀ : List ℕ} {from : ℕ} {D : List Row} where
-  during-judged : (t : Try) (st : State) (E : Engine)
-      → ((reduced (st .rows) (st .pivots) 0 (st .short) (t .ring) ≡ 0 → ⊥)
-      → (reduced (st .rows) (st .pivots) (st .short) (st .marks) (reduced (st .rows) (st .pivots) 0 (st .short) (t .ring)) ≡ 0 → ⊥) → st .marks < 82)
-      → During out₀ table₀ sizes₀ from D st E → During out₀ table₀ sizes₀ from D (judge t st) (judgeBy from t E)
+  during-judged : (t : Try) (st : State) (E : Engine) → Fits t st → During out₀ table₀ sizes₀ from D st E
+      → During out₀ table₀ sizes₀ from D (judge t st) (judgeBy from t E)
   unfolding judged
   during-judged t st E room r =
       subst (λ (x : ℕ). During out₀ table₀ sizes₀ from D (judge t st) (cond (eqb x 0) E (keptBy from (t .family) (t .size) x u′ E))) (sym a-same)
