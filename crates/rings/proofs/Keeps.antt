@@ -40,17 +40,21 @@ writtenRows = laid 8 rowBytes
 abbrev pub writtenClasses : List ℕ → List ClassRow → List ℕ
 writtenClasses = laid 5 classRowBytes
 
+-- A row has eight bytes.
 pub row-wide : (row : Row) → length (rowBytes row) ≡ 8
 unfolding familyBytes
 row-wide row = refl
 
+-- A class row has five bytes.
 pub class-wide : (row : ClassRow) → length (classRowBytes row) ≡ 5
 unfolding classBytes
 class-wide row = refl
 
+-- So many rows have room in the buffer.
 pub room-8 : (n l : ℕ) → n ≤ l / 8 → 8 * n ≤ l
 room-8 n l h = omega arith
 
+-- So many class rows have room in the buffer.
 pub room-5 : (n l : ℕ) → n ≤ l / 5 → 5 * n ≤ l
 room-5 n l h = omega arith
 
