@@ -1,9 +1,9 @@
 -- Labels stay below 128, and classes are fewer than the rings numbered.
-use mathlib.Core.Path.{_≡_, refl, sym, ap, _∙_, subst}
+use mathlib.Core.Path.{_≡_, refl, sym, ap, _∙_}
 use mathlib.Core.Bool.{Bool, true, false, cond}
 use mathlib.Core.List.{List, [], _∷_}
 use mathlib.Core.Logic.{⊎-elim}
-use Prim.Native.Nat.{ℕ, zero, suc, _+_, _-_, _^_, _≤_, _<_}
+use Prim.Native.Nat.{ℕ, _+_, _-_, _^_, _≤_, _<_}
 use native.Mathlib.Decide.{ℕ-discrete}
 use native.Mathlib.Omega.{arith}
 use lib.Bits.{bitOr, or-lt}
@@ -11,10 +11,12 @@ use lib.Count.{trailingZeros}
 use lib.Dec.{eqb}
 use lib.ListN.{length, getD, set}
 use lib.Pow.{pow-pos, pow-lt}
-use lib.Seq.{getD-set-same, getD-set-other, set-out}
+use lib.Seq.{getD-set-same, getD-set-other, set-getD, set-out}
 use borrow.Author.Tests.{eqb-true}
-use Rattle.bondset.specs.Sets.{bit, has, members}
+use Rattle.bondset.specs.Sets.{bit, has, lengthTo, members}
 use Rattle.bondset.proofs.Laws.{lt-or-ge, pos-of-ne, zero-bit, trailing}
+use Rattle.bondset.proofs.Members.{lengthTo-members, mem-of-bit}
+use Rattle.spans.specs.Elements.{_∈_, first}
 use Rattle.model.specs.Fold.{through, count}
 use Rattle.model.specs.State.{labelsIn, relabel, joined}
 use Rattle.ledger.specs.Ledger.{Numbers, numberedIn}
@@ -39,6 +41,9 @@ labelled-set labels i l h b = record { below = below }
 
 -- ---- joining
 
+bit-some : (w x : ℕ) → bit w x ≡ 1 → 0 < w
+bit-some w x b = pos-of-ne w (λ z. let o : _≡_ {A = ℕ} 0 1 = sym (zero-bit x) ∙ ap (λ (v : ℕ). bit v x) (sym z) ∙ b in omega arith)
+
 labels-lt : (labels : List ℕ) → Labelled labels → (js : List ℕ) (acc : ℕ) → acc < 2 ^ 128
     → through (λ j acc. bitOr acc (2 ^ getD labels j 0)) js acc < 2 ^ 128
 unfolding through
@@ -49,12 +54,8 @@ relabel-labelled : (w j : ℕ) (labels : List ℕ) → w < 2 ^ 128 → Labelled 
 unfolding relabel
 relabel-labelled w j labels l h = which (has w (getD labels j 0)) refl
   where
-    some : has w (getD labels j 0) ≡ true → 0 < w
-    some e =
-        pos-of-ne w (λ z. let o : _≡_ {A = ℕ} 0 1 = sym (zero-bit (getD labels j 0)) ∙ ap (λ (x : ℕ). bit x (getD labels j 0)) (sym z) ∙ eqb-true _ 1 e in omega arith)
-
     which : (b : Bool) → has w (getD labels j 0) ≡ b → Labelled (cond b (set labels j (trailingZeros 128 w)) labels)
-    which true e = labelled-set labels j (trailingZeros 128 w) h (trailing 128 w (some e) l .small)
+    which true e = labelled-set labels j (trailingZeros 128 w) h (trailing 128 w (bit-some w (getD labels j 0) (eqb-true (bit w (getD labels j 0)) 1 e)) l .small)
     which false e = h
 
 relabelled-labelled : (w : ℕ) → w < 2 ^ 128 → (js labels : List ℕ) → Labelled labels → Labelled (through (relabel w (trailingZeros 128 w)) js labels)
@@ -68,6 +69,38 @@ unfolding joined labelsIn
 joined-labelled short marks t labels h =
     relabelled-labelled (labelsIn labels t) (labels-lt labels h (members 128 t) 0 (pow-pos 128)) (count short (marks - short)) labels h
 
+-- ---- nothing to join
+
+same-of-short : {x y : ℕ} (xs : List ℕ) → length xs < 2 → x ∈ xs → y ∈ xs → x ≡ y
+same-of-short (z ∷ []) l first first = refl
+same-of-short (z ∷ v ∷ xs) l m n = absurd (omega arith)
+
+only-lowest : (w : ℕ) → w < 2 ^ 128 → lengthTo 128 w < 2 → (x : ℕ) → x < 128 → bit w x ≡ 1 → x ≡ trailingZeros 128 w
+only-lowest w l h x k b =
+    let t = trailing 128 w (bit-some w x b) l in
+    same-of-short (members 128 w) (rw lengthTo-members at h) (mem-of-bit 128 w x k b) (mem-of-bit 128 w (trailingZeros 128 w) (t .small) (t .here))
+
+module _ (w : ℕ) (only : (x : ℕ) → x < 128 → bit w x ≡ 1 → x ≡ trailingZeros 128 w) (labels : List ℕ) (h : Labelled labels) where
+  relabel-same : (j : ℕ) → relabel w (trailingZeros 128 w) j labels ≡ labels
+  unfolding relabel
+  relabel-same j = which (has w (getD labels j 0)) refl
+    where
+      which : (b : Bool) → has w (getD labels j 0) ≡ b → cond b (set labels j (trailingZeros 128 w)) labels ≡ labels
+      which true e = rw (← only (getD labels j 0) (h .below j) (eqb-true (bit w (getD labels j 0)) 1 e)) (set-getD labels j 0)
+      which false e = refl
+
+  relabelled-same : (js : List ℕ) → through (relabel w (trailingZeros 128 w)) js labels ≡ labels
+  unfolding through
+  relabelled-same [] = refl
+  relabelled-same (j ∷ js) = rw (relabel-same j) (relabelled-same js)
+
+-- one label, or none
+pub joined-same : (short marks t : ℕ) (labels : List ℕ) → Labelled labels → lengthTo 128 (labelsIn labels t) < 2 → labels ≡ joined short marks t labels
+unfolding joined labelsIn
+joined-same short marks t labels h l =
+    let w = labelsIn labels t in
+    sym (relabelled-same w (only-lowest w (labels-lt labels h (members 128 t) 0 (pow-pos 128)) l) labels h (count short (marks - short)))
+
 -- ---- numbering
 
 -- The numbers before ring i is numbered.
@@ -75,9 +108,12 @@ pub record Before (i : ℕ) (s : Numbers) : Type 0 where
   pub few : s .classes ≤ i
   pub labelled : Labelled (s .labels)
 
-pub numbered-before : (k : ℕ) (holds : List ℕ) (i : ℕ) (s : Numbers) → i < 128 → Before i s → Before (i + 1) (numberedIn k holds i s)
+numbered-before : (k : ℕ) (holds : List ℕ) (i : ℕ) (s : Numbers) → i < 128 → Before i s → Before (i + 1) (numberedIn k holds i s)
 unfolding numberedIn
 numbered-before k holds i s l b =
     cond-both (Before (i + 1)) (eqb (getD (s .labels) i 0) i) _ _
     (record { few = omega arith; labelled = labelled-set (s .labels) i (s .classes) (b .labelled) (omega arith) })
     (record { few = omega arith; labelled = labelled-set (s .labels) i _ (b .labelled) (b .labelled .below (getD (s .labels) i 0)) })
+
+pub numbered-after : (k : ℕ) (holds : List ℕ) (i : ℕ) (s t : Numbers) → t ≡ numberedIn k holds i s → i < 128 → Before i s → Before (i + 1) t
+numbered-after k holds i s t e l b = rw e (numbered-before k holds i s l b)

@@ -1,5 +1,5 @@
 -- A kept prototype is entered part by part: what becomes of the ledger, and that it stays fit.
-use mathlib.Core.Path.{_≡_, refl, sym, ap, _∙_, subst}
+use mathlib.Core.Path.{_≡_, refl, ap, _∙_}
 use mathlib.Core.Bool.{true, false}
 use mathlib.Core.List.{List, [], _∷_}
 use Prim.Native.Nat.{ℕ, _+_, _-_, _*_, _/_, _%_, _^_, _≤_, _<_}
@@ -9,7 +9,7 @@ use lib.Dec.{eqb}
 use lib.ListN.{length, getD, set, length-set}
 use borrow.Author.Tests.{lt-ltb, le-ltb}
 use Rattle.bondset.specs.Sets.{has}
-use Rattle.bondset.specs.Reduction.{putRow, reduced, used, pushedTag, pivotOf}
+use Rattle.bondset.specs.Reduction.{Room, putRow, reduced, used, pushedTag, pivotOf}
 use Rattle.cycles.specs.Family.{Family}
 use Rattle.model.specs.Fold.{through, count}
 use Rattle.model.specs.State.{labelsIn, relabel, joined}
@@ -25,31 +25,50 @@ module _ (f : Family) (L : Ledger) (families : ℕ) (counted : families ≡ (L .
       → tags ≡ putRow (L .tags) (L .marks) (pushedTag (L .marks) names) → pivots ≡ set (L .pivots) (L .marks) (pivotOf rest)
       → out ≡ putFamily (L .out) (L .families) f 1 (L .marks)
       → record {
-        marks = L .marks + 1; short = L .short; families = families; classes = L .classes; total = L .total + f .long;
-        rows = rows; tags = tags; pivots = pivots;
-        labels = set (L .labels) (L .marks) (L .marks); holds = set (L .holds) (L .marks) 1; out = out; table = L .table;
+        marks = L .marks + 1;
+        short = L .short;
+        families = families;
+        classes = L .classes;
+        total = L .total + f .long;
+        rows = rows;
+        tags = tags;
+        pivots = pivots;
+        labels = set (L .labels) (L .marks) (L .marks);
+        holds = set (L .holds) (L .marks) 1;
+        out = out;
+        table = L .table;
       } ≡ markedIn f rest names L
   unfolding markedIn
   mark-is rest names rows tags pivots r t p o = rw (counted, r, t, p, o)
 
-  pub sum-is : (t : ℕ) (labels holds : List ℕ) → labels ≡ joined (L .short) (L .marks) t (L .labels)
-      → holds ≡ held (L .holds) (trailingZeros 128 t) → out ≡ putFamily (L .out) (L .families) f 0 (trailingZeros 128 t)
+  pub sum-is : (t j : ℕ) → j ≡ trailingZeros 128 t → (labels holds : List ℕ) → labels ≡ joined (L .short) (L .marks) t (L .labels)
+      → holds ≡ held (L .holds) j → out ≡ putFamily (L .out) (L .families) f 0 j
       → record {
-        marks = L .marks; short = L .short; families = families; classes = L .classes; total = L .total;
-        rows = L .rows; tags = L .tags; pivots = L .pivots; labels = labels; holds = holds; out = out; table = L .table;
+        marks = L .marks;
+        short = L .short;
+        families = families;
+        classes = L .classes;
+        total = L .total;
+        rows = L .rows;
+        tags = L .tags;
+        pivots = L .pivots;
+        labels = labels;
+        holds = holds;
+        out = out;
+        table = L .table;
       } ≡ summedIn f t L
   unfolding summedIn
-  sum-is t labels holds l h o = rw (counted, l, h, o)
+  sum-is t j e labels holds l h o = rw (← e, counted, l, h, o)
 
 module _ (f : Family) (rest names : ℕ) (L : Ledger) (e u : ℕ) (left : e ≡ reduced (L .rows) (L .pivots) (L .short) (L .marks) rest)
     (named : u ≡ used (L .rows) (L .tags) (L .pivots) (L .short) (L .marks) rest names) where
-  pub entered-sum : eqb e 0 ≡ true → (t : ℕ) → t ≡ u / 2 ^ L .short * 2 ^ L .short → summedIn f t L ≡ entered f rest names L
+  pub entered-sum : eqb e 0 ≡ true → (t : ℕ) → t ≡ u / 2 ^ L .short * 2 ^ L .short → (M : Ledger) → M ≡ summedIn f t L → M ≡ entered f rest names L
   unfolding entered
-  entered-sum z t c = rw (← left, ← named, z, c)
+  entered-sum z t c M h = h ∙ rw (← left, ← named, z, c)
 
-  pub entered-mark : eqb e 0 ≡ false → L .marks < 82 → markedIn f e u L ≡ entered f rest names L
+  pub entered-mark : eqb e 0 ≡ false → L .marks < 82 → (M : Ledger) → M ≡ markedIn f e u L → M ≡ entered f rest names L
   unfolding entered
-  entered-mark z l = rw (← left, ← named, z, lt-ltb (L .marks) 82 l)
+  entered-mark z l M h = h ∙ rw (← left, ← named, z, lt-ltb (L .marks) 82 l)
 
   pub entered-none : eqb e 0 ≡ false → 82 ≤ L .marks → L ≡ entered f rest names L
   unfolding entered
@@ -59,6 +78,12 @@ module _ (f : Family) (rest names : ℕ) (L : Ledger) (e u : ℕ) (left : e ≡ 
 
 pub lowest-byte : (s j : ℕ) → j ≡ trailingZeros 128 s → j < 256
 lowest-byte s j e = omega (arith, trailing-le 128 s)
+
+pub room-fits : {rows tags pivots : List ℕ} → Sized rows tags pivots → (n : ℕ) → n ≤ 82 → Room rows tags pivots n
+room-fits s n h = record { rowsFit = omega arith; tagsFit = omega arith; pivotsFit = omega arith }
+
+pub room-more : {rows tags pivots : List ℕ} → Sized rows tags pivots → (n : ℕ) → n < 82 → Room rows tags pivots (n + 1)
+room-more s n h = room-fits s (n + 1) (omega arith)
 
 pub sized-still : {rows tags pivots rows′ tags′ pivots′ : List ℕ} → Sized rows tags pivots → length rows′ ≡ length rows → length tags′ ≡ length tags
     → length pivots′ ≡ length pivots → Sized rows′ tags′ pivots′
@@ -94,13 +119,13 @@ module _ (labels holds : List ℕ) (t : Tally) (fit : Fit labels holds t) (famil
         totalFit = omega arith;
       }
 
-  pub sum-fit : (s : ℕ) → Fit (joined (t .short) (t .marks) s labels) (held holds (trailingZeros 128 s))
-      (record { marks = t .marks; short = t .short; families = families; classes = t .classes; total = t .total })
-  sum-fit s =
+  pub sum-fit : (s j : ℕ) → j ≡ trailingZeros 128 s → (labels′ holds′ : List ℕ) → labels′ ≡ joined (t .short) (t .marks) s labels → holds′ ≡ held holds j
+      → Fit labels′ holds′ (record { marks = t .marks; short = t .short; families = families; classes = t .classes; total = t .total })
+  sum-fit s j e labels′ holds′ l h =
       record {
-        labelsLong = joined-length (t .short) (t .marks) s labels ∙ fit .labelsLong;
-        holdsLong = length-set holds (trailingZeros 128 s) _ ∙ fit .holdsLong;
-        labelled = joined-labelled (t .short) (t .marks) s labels (fit .labelled);
+        labelsLong = ap length l ∙ joined-length (t .short) (t .marks) s labels ∙ fit .labelsLong;
+        holdsLong = ap length h ∙ length-set holds j _ ∙ fit .holdsLong;
+        labelled = rw l (joined-labelled (t .short) (t .marks) s labels (fit .labelled));
         marksFit = fit .marksFit;
         shortFit = fit .shortFit;
         classesFit = fit .classesFit;

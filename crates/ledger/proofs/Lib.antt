@@ -6,4 +6,6 @@ pub mod Entered
 pub mod Settled
 pub mod Pasted
 pub mod RowsWritten
+pub mod KeepsRows
+pub mod KeepsClasses
 pub mod Keeps

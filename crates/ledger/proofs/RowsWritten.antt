@@ -1,14 +1,12 @@
 -- Rows written one after the other: one row more, another row in the place of one, rows that find no room, and what is read back.
-use mathlib.Core.Path.{_≡_, refl, sym, ap, ap₂, _∙_, subst}
+use mathlib.Core.Path.{_≡_, refl, sym, ap, _∙_}
 use mathlib.Core.List.{List, [], _∷_, _++_}
 use Prim.Native.Nat.{ℕ, zero, suc, _+_, _*_, _/_, _≤_, _<_}
-use native.Mathlib.Nat.{add-zero, zero-add, add-suc, suc-add, le-refl}
+use native.Mathlib.Nat.{add-zero, zero-add, add-suc, suc-add}
 use native.Mathlib.Omega.{arith}
 use lib.ListN.{length, getD, set}
 use lib.Seq.{set-getD}
-use Rattle.cycles.specs.Rows.{Row, ClassRow}
-use Rattle.ledger.specs.Ledger.{familyBytes, putFamily, classBytes}
-use Rattle.ledger.specs.Written.{written, putFamilyRow, putClassRow}
+use Rattle.ledger.specs.Written.{written}
 use Rattle.ledger.proofs.Pasted.{stored, stored-out, stored-length, stored-again, stored-apart, stored-one, getD-stored}
 
 -- Rows of n bytes, one for each x.
@@ -89,7 +87,8 @@ module _ (n : ℕ) (room : (i l : ℕ) → i < l / n → n * i + n ≤ l) (order
         ∙ getD-stored n room order (written put out 0 xs) c (bytes (getD xs c d)) (full (getD xs c d)) fits j k
 
     -- one byte of a row is another
-    pub written-one : (j a : ℕ) → j < n → (x : X) → bytes x ≡ set (bytes (getD xs c d)) j a → set (written put out 0 xs) (n * c + j) a ≡ written put out 0 (set xs c x)
+    pub written-one : (j a : ℕ) → j < n → (x : X) → bytes x ≡ set (bytes (getD xs c d)) j a
+        → set (written put out 0 xs) (n * c + j) a ≡ written put out 0 (set xs c x)
     written-one j a k x e =
         ap (λ (r : List ℕ). set r (n * c + j) a) written-has
         ∙ stored-one n room order (written put out 0 xs) c (bytes (getD xs c d)) (full (getD xs c d)) fits j a k

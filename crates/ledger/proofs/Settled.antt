@@ -1,5 +1,5 @@
 -- A length is settled part by part: what becomes of the ledger, and that it stays fit.
-use mathlib.Core.Path.{_≡_, refl, _∙_}
+use mathlib.Core.Path.{_≡_, _∙_}
 use mathlib.Core.List.{List}
 use Prim.Native.Nat.{ℕ, _-_, _/_, min}
 use native.Mathlib.Nat.{le-refl}
@@ -14,8 +14,18 @@ pub settle-is : (k first : ℕ) (L : Ledger) (labels : List ℕ) (classes : ℕ)
     ≡ through (numberedIn k (L .holds)) (count (L .short) (L .marks - L .short)) (numbersOf (L .labels) (L .classes) (L .table))
     → out ≡ through (patched labels) (count first (min (L .families) (length (L .out) / 8) - first)) (L .out)
     → record {
-      marks = L .marks; short = L .marks; families = L .families; classes = classes; total = L .total;
-      rows = L .rows; tags = L .tags; pivots = L .pivots; labels = labels; holds = L .holds; out = out; table = table;
+      marks = L .marks;
+      short = L .marks;
+      families = L .families;
+      classes = classes;
+      total = L .total;
+      rows = L .rows;
+      tags = L .tags;
+      pivots = L .pivots;
+      labels = labels;
+      holds = L .holds;
+      out = out;
+      table = table;
     } ≡ settledIn k first L
 unfolding settledIn
 settle-is k first L labels classes table out n o = rw (← n, o)

@@ -20,8 +20,18 @@ familyOf f = record { long = f .k; r = f .r; p = f .p; q = f .q; x = f .x }
 abbrev pub ledgerOf : Tally → List ℕ → List ℕ → List ℕ → List ℕ → List ℕ → List ℕ → List ℕ → Ledger
 ledgerOf t rows tags pivots labels holds out table =
     record {
-      marks = t .marks; short = t .short; families = t .families; classes = t .classes; total = t .total;
-      rows = rows; tags = tags; pivots = pivots; labels = labels; holds = holds; out = out; table = table;
+      marks = t .marks;
+      short = t .short;
+      families = t .families;
+      classes = t .classes;
+      total = t .total;
+      rows = rows;
+      tags = tags;
+      pivots = pivots;
+      labels = labels;
+      holds = holds;
+      out = out;
+      table = table;
     }
 
 -- The labels, the number of classes and the class rows.

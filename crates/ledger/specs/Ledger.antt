@@ -45,9 +45,18 @@ unfoldable pub markedIn : Family → ℕ → ℕ → Ledger → Ledger
 markedIn f rest names L =
     let j = L .marks in
     record {
-      marks = j + 1; short = L .short; families = (L .families + 1) % 2 ^ 64; classes = L .classes; total = L .total + f .long;
-      rows = putRow (L .rows) j rest; tags = putRow (L .tags) j (pushedTag j names); pivots = set (L .pivots) j (pivotOf rest);
-      labels = set (L .labels) j j; holds = set (L .holds) j 1; out = putFamily (L .out) (L .families) f 1 j; table = L .table;
+      marks = j + 1;
+      short = L .short;
+      families = (L .families + 1) % 2 ^ 64;
+      classes = L .classes;
+      total = L .total + f .long;
+      rows = putRow (L .rows) j rest;
+      tags = putRow (L .tags) j (pushedTag j names);
+      pivots = set (L .pivots) j (pivotOf rest);
+      labels = set (L .labels) j j;
+      holds = set (L .holds) j 1;
+      out = putFamily (L .out) (L .families) f 1 j;
+      table = L .table;
     }
 
 -- A kept prototype that is the sum of marked ones, those of its own length named by t.
@@ -55,9 +64,18 @@ unfoldable pub summedIn : Family → ℕ → Ledger → Ledger
 summedIn f t L =
     let j = trailingZeros 128 t in
     record {
-      marks = L .marks; short = L .short; families = (L .families + 1) % 2 ^ 64; classes = L .classes; total = L .total;
-      rows = L .rows; tags = L .tags; pivots = L .pivots; labels = joined (L .short) (L .marks) t (L .labels);
-      holds = set (L .holds) j ((getD (L .holds) j 0 + 1) % 2 ^ 64); out = putFamily (L .out) (L .families) f 0 j; table = L .table;
+      marks = L .marks;
+      short = L .short;
+      families = (L .families + 1) % 2 ^ 64;
+      classes = L .classes;
+      total = L .total;
+      rows = L .rows;
+      tags = L .tags;
+      pivots = L .pivots;
+      labels = joined (L .short) (L .marks) t (L .labels);
+      holds = set (L .holds) j ((getD (L .holds) j 0 + 1) % 2 ^ 64);
+      out = putFamily (L .out) (L .families) f 0 j;
+      table = L .table;
     }
 
 -- A kept prototype: `rest` and `names` are what the shorter marked rings left of it.
@@ -106,7 +124,16 @@ unfoldable pub settledIn : ℕ → ℕ → Ledger → Ledger
 settledIn k first L =
     let s = through (numberedIn k (L .holds)) (count (L .short) (L .marks - L .short)) (record { labels = L .labels; classes = L .classes; table = L .table }) in
     record {
-      marks = L .marks; short = L .marks; families = L .families; classes = s .classes; total = L .total;
-      rows = L .rows; tags = L .tags; pivots = L .pivots; labels = s .labels; holds = L .holds;
-      out = through (patched (s .labels)) (count first (min (L .families) (length (L .out) / 8) - first)) (L .out); table = s .table;
+      marks = L .marks;
+      short = L .marks;
+      families = L .families;
+      classes = s .classes;
+      total = L .total;
+      rows = L .rows;
+      tags = L .tags;
+      pivots = L .pivots;
+      labels = s .labels;
+      holds = L .holds;
+      out = through (patched (s .labels)) (count first (min (L .families) (length (L .out) / 8) - first)) (L .out);
+      table = s .table;
     }

@@ -56,13 +56,16 @@ fn relabel(labels: &mut [u8], w: BondSet, j: usize)
     }
 }
 
-/// Joins the classes of the marked rings from, .., to - 1 that `t` names.
+/// Joins the classes of the marked rings from, .., to - 1 that `t` names: nothing changes if they have one label.
 pub fn join(labels: &mut [u8], from: usize, to: usize, t: BondSet)
     requires { ⌜ to ≤ length (now labels) ⌝ }
     requires { ⌜ Labelled (now labels) ⌝ }
     ensures { λ _. ⌜ now (labels .exit) ≡ joined from to (value t) (now (labels .entry)) ⌝ }
 {
     let w = labels_in(labels, t);
+    if bondset::length(w) < 2 {
+        return;
+    }
     for j in from..to {
         relabel(labels, w, j);
     }

@@ -15,7 +15,7 @@ use Rattle.model.specs.Fold.{through, each, count}
 use Rattle.model.specs.Net.{Net, netOf}
 use Rattle.model.specs.Layer.{layer, layersInto, walk, ways}
 use Rattle.model.specs.State.{State, judged, link, tried}
-use Rattle.model.specs.Loops.{seek, tops, topLoop, lengthLoop}
+use Rattle.model.specs.Loops.{Running, seek, tops, topLoop, lengthLoop}
 use Rattle.model.specs.Run.{Run}
 use Rattle.model.proofs.Ready.{Ready, Layered}
 use Rattle.model.proofs.Layers.{layers-layered}
@@ -35,6 +35,10 @@ pub record Try : Type 0 where
 -- What a candidate does to the state.
 abbrev pub judge : Try → State → State
 judge t st = judged (t .family) (t .size) (t .ring) st
+
+-- A candidate whose p and q are d steps below the top in these layers.
+abbrev pub tryAt : Net → List ℕ → ℕ → Family → Try
+tryAt G us d f = record { family = f; size = ways G us d (f .p) * ways G us d (f .q); ring = walk G us d (f .p) (f .q) (link G f) }
 
 all-mapped : {A B : Type 0} {P : B → Type 0} (f : A → B) (xs : List A) → ((x : A) → x ∈ xs → P (f x)) → All P (map f xs)
 all-mapped f [] h = All.nil
@@ -71,11 +75,7 @@ module _ (c : Compound) (rank pre : ℕ → ℕ) (ready : Ready c rank pre) wher
     wrote r us = layersInto G (pre r) r (k / 2) us
 
     abbrev try : List ℕ → Family → Try
-    try us f = record {
-      family = f;
-      size = ways G us (depth k) (f .p) * ways G us (depth k) (f .q);
-      ring = walk G us (depth k) (f .p) (f .q) (link G f);
-    }
+    try us f = tryAt G us (depth k) f
 
     abbrev high : ℕ → ℕ
     high r = layer G (pre r) r (k / 2)
@@ -135,54 +135,74 @@ module _ (c : Compound) (rank pre : ℕ → ℕ) (ready : Ready c rank pre) wher
         (λ f m. try-good (named r first) (layers-layered c rank pre ready r (k / 2) us room) (of r m) (under-candidate c rank pre ready r (named r first) k long m)))
         (tries-good rs (wrote r us) long (rw (length-wrote r us) room) (λ r′ m. named r′ (later m)))
 
-    seek-tried : (r : ℕ) (us : List ℕ) (st : State) → Layered c pre r (k / 2) us → seek G (tried G) k r us st ≡ through judge (map (try us) (candidates r)) st
-    unfolding tried
-    seek-tried r us st layered =
-        seek-found G k r us st
-        ∙ ap₂ (λ (u below : ℕ). through (λ f st. tried G us (depth k) f st) (found G k r u below) st) (layered .are (k / 2) (omega arith))
-        (layered .are (k / 2 - 1) (omega arith))
-        ∙ sym (through-map judge (try us) (candidates r) st)
+    module _ {X : Type 0} (step : Try → X → X) where
+      abbrev attempt : List ℕ → ℕ → Family → X → X
+      attempt us d f x = step (tryAt G us d f) x
 
-    state-is : (rs : List ℕ) (s : Run) → k / 2 < length (s .layers) → (through (topLoop G (tried G) pre k) rs s) .state ≡ through judge (triesOf rs (s .layers)) (s .state)
-    unfolding through topLoop triesOf
-    state-is [] s room = refl
-    state-is (r ∷ rs) s room =
-        let us = wrote r (s .layers) in
-        let more : k / 2 < length us = rw (length-wrote r (s .layers)) room in
-        state-is rs (topLoop G (tried G) pre k r s) more
-        ∙ ap (λ (st : State). through judge (triesOf rs us) st) (seek-tried r us (s .state) (layers-layered c rank pre ready r (k / 2) (s .layers) room))
-        ∙ sym (through-append judge (map (try us) (candidates r)) (triesOf rs us) (s .state))
+      seek-tried : (r : ℕ) (us : List ℕ) (x : X) → Layered c pre r (k / 2) us → seek G attempt k r us x ≡ through step (map (try us) (candidates r)) x
+      seek-tried r us x layered =
+          seek-found G k r attempt us x
+          ∙ ap₂ (λ (u below : ℕ). through (attempt us (depth k)) (found G k r u below) x) (layered .are (k / 2) (omega arith))
+          (layered .are (k / 2 - 1) (omega arith))
+          ∙ sym (through-map step (try us) (candidates r) x)
+
+      state-is : (rs : List ℕ) (s : Running X) → k / 2 < length (s .layers)
+          → (through (topLoop G attempt pre k) rs s) .state ≡ through step (triesOf rs (s .layers)) (s .state)
+      unfolding through topLoop triesOf
+      state-is [] s room = refl
+      state-is (r ∷ rs) s room =
+          let us = wrote r (s .layers) in
+          let more : k / 2 < length us = rw (length-wrote r (s .layers)) room in
+          state-is rs (topLoop G attempt pre k r s) more
+          ∙ ap (λ (x : X). through step (triesOf rs us) x) (seek-tried r us (s .state) (layers-layered c rank pre ready r (k / 2) (s .layers) room))
+          ∙ sym (through-append step (map (try us) (candidates r)) (triesOf rs us) (s .state))
 
     room-is : (rs : List ℕ) (s : Run) → length ((through (topLoop G (tried G) pre k) rs s) .layers) ≡ length (s .layers)
     unfolding through topLoop
     room-is [] s = refl
     room-is (r ∷ rs) s = room-is rs (topLoop G (tried G) pre k r s) ∙ length-wrote r (s .layers)
 
-  -- Every loop over one length is such a pass.
-  pub length-pass : (k : ℕ) (s : Run) → 3 ≤ k → k ≤ c .n → 33 ≤ length (s .layers) → Pass k s
-  unfolding lengthLoop
-  length-pass k s long fits room =
-      let rs = members 64 (tops G pre) in
-      let deep : k / 2 < length (s .layers) = omega (arith, ready .atoms) in
-      let good = tries-good k rs (s .layers) long deep (λ r m. top-named-small c rank pre ready r (bit-of-mem 64 (tops G pre) r m)) in
-      let families = families-are k rs (s .layers) in
-      record {
-        tries = triesOf k rs (s .layers);
-        items = record {
+  -- All that is tried of length k, from these layers on.
+  pub tries : ℕ → List ℕ → List Try
+  tries k us = triesOf k (members 64 (tops G pre)) us
+
+  module _ (k : ℕ) (long : 3 ≤ k) (fits : k ≤ c .n) where
+    kept-in : (f : Family) → Kept c rank f → f .long ≡ k → f ∈ each (candidates k) (members 64 (tops G pre))
+    kept-in f kept e =
+        let many : 3 ≤ f .long = omega arith in
+        let top = prototype-top c rank pre ready (kept .prototype) many in
+        let small = top-named-small c rank pre ready (f .r) top in
+        ∈-each (candidates k) (mem-of-bit 64 (tops G pre) (f .r) (omega (arith, ready .atoms)) top)
+        (subst (λ (j : ℕ). f ∈ candidates j (f .r)) e (candidate-under c rank pre ready (kept .prototype .candidate) many))
+
+    -- They are all that may be kept, in order.
+    pub tries-items : (us : List ℕ) → 33 ≤ length us → Items k (tries k us)
+    unfolding tries
+    tries-items us room =
+        let rs = members 64 (tops G pre) in
+        let good = tries-good k rs us long (omega (arith, ready .atoms)) (λ r m. top-named-small c rank pre ready r (bit-of-mem 64 (tops G pre) r m)) in
+        let families = families-are k rs us in
+        record {
           ordered = rw families (candidates-ascend k (tops G pre));
           long = all-map (λ t g. g .long) good;
           given = all-map (λ t g. g .given) good;
           sized = all-map (λ t g. g .sized) good;
           all = λ f kept e. rw families (kept-in f kept e);
-        };
-        state = state-is k rs s deep;
-        room = room-is k rs s;
-      }
-    where
-      kept-in : (f : Family) → Kept c rank f → f .long ≡ k → f ∈ each (candidates k) (members 64 (tops G pre))
-      kept-in f kept e =
-          let many : 3 ≤ f .long = omega arith in
-          let top = prototype-top c rank pre ready (kept .prototype) many in
-          let small = top-named-small c rank pre ready (f .r) top in
-          ∈-each (candidates k) (mem-of-bit 64 (tops G pre) (f .r) (omega (arith, ready .atoms)) top)
-          (subst (λ (j : ℕ). f ∈ candidates j (f .r)) e (candidate-under c rank pre ready (kept .prototype .candidate) many))
+        }
+
+    -- The loop over the length is a loop over them, whatever a candidate does to the state.
+    pub loop-tries : {X : Type 0} (step : Try → X → X) (s : Running X) → 33 ≤ length (s .layers)
+        → (lengthLoop G (λ us d f x. step (tryAt G us d f) x) pre k s) .state ≡ through step (tries k (s .layers)) (s .state)
+    unfolding lengthLoop tries
+    loop-tries step s room = state-is k step (members 64 (tops G pre)) s (omega (arith, ready .atoms))
+
+    -- The loop over the length is such a pass.
+    pub length-pass : (s : Run) → 33 ≤ length (s .layers) → Pass k s
+    unfolding lengthLoop tried
+    length-pass s room =
+        record {
+          tries = tries k (s .layers);
+          items = tries-items (s .layers) room;
+          state = loop-tries judge s room;
+          room = room-is k (members 64 (tops G pre)) s;
+        }

@@ -14,7 +14,6 @@ use Rattle.cycles.specs.Family.{Family}
 use Rattle.cycles.specs.Rows.{key, Less}
 use Rattle.model.specs.Fold.{through, each}
 use Rattle.model.specs.Net.{Net, nbrs}
-use Rattle.model.specs.State.{State, tried}
 use Rattle.model.specs.Loops.{above, fam, partners, oddLoop, tipLoop, evenLoop, seek}
 use Rattle.model.proofs.ItemsLists.{through-each, ∈-each, from-each, Sorted, sorted-each}
 use Rattle.bondset.proofs.Members.{members-climb, mem-of-bit, bit-of-mem}
@@ -194,49 +193,50 @@ module _ (G : Net) (k r : ℕ) where
 
   -- ---- that the loops try them
 
-  module _ (us : List ℕ) (d : ℕ) where
-    abbrev attempt : Family → State → State
-    attempt f st = tried G us d f st
+  module _ {X : Type 0} (attempt : List ℕ → ℕ → Family → X → X) where
+    module _ (us : List ℕ) (d : ℕ) where
+      pairs-tried : (x p qs : ℕ) (s : X) → partners G attempt us d k r x p qs s ≡ through (attempt us d) (pairs x p qs) s
+      unfolding partners pairs through
+      pairs-tried x p qs s =
+          through-each (attempt us d) (λ q. fam k r x p q ∷ []) (λ q s. attempt us d (fam k r x p q) s) (λ q s. refl) (members 64 qs) s
 
-    pairs-tried : (x p qs : ℕ) (st : State) → partners G (tried G) us d k r x p qs st ≡ through attempt (pairs x p qs) st
-    unfolding partners pairs through
-    pairs-tried x p qs st = through-each attempt (λ q. fam k r x p q ∷ []) (λ q st. attempt (fam k r x p q) st) (λ q s. refl) (members 64 qs) st
+      odds-tried : (u : ℕ) (s : X) → oddLoop G attempt us d k r u s ≡ through (attempt us d) (odds u) s
+      unfolding oddLoop odds
+      odds-tried u s =
+          through-each (attempt us d) (λ p. pairs 255 p (bitAnd (above u p) (nbrs G p)))
+          (λ p s. partners G attempt us d k r 255 p (bitAnd (above u p) (nbrs G p)) s)
+          (λ p s. pairs-tried 255 p (bitAnd (above u p) (nbrs G p)) s) (members 64 u) s
 
-    odds-tried : (u : ℕ) (st : State) → oddLoop G (tried G) us d k r u st ≡ through attempt (odds u) st
-    unfolding oddLoop odds
-    odds-tried u st =
-        through-each attempt (λ p. pairs 255 p (bitAnd (above u p) (nbrs G p))) (λ p st. partners G (tried G) us d k r 255 p (bitAnd (above u p) (nbrs G p)) st)
-        (λ p s. pairs-tried 255 p (bitAnd (above u p) (nbrs G p)) s) (members 64 u) st
+      tips-tried : (x ps : ℕ) (s : X) → tipLoop G attempt us d k r x ps s ≡ through (attempt us d) (tips x ps) s
+      unfolding tipLoop tips
+      tips-tried x ps s =
+          through-each (attempt us d) (λ p. pairs x p (above ps p)) (λ p s. partners G attempt us d k r x p (above ps p) s)
+          (λ p s. pairs-tried x p (above ps p) s) (members 64 ps) s
 
-    tips-tried : (x ps : ℕ) (st : State) → tipLoop G (tried G) us d k r x ps st ≡ through attempt (tips x ps) st
-    unfolding tipLoop tips
-    tips-tried x ps st =
-        through-each attempt (λ p. pairs x p (above ps p)) (λ p st. partners G (tried G) us d k r x p (above ps p) st) (λ p s. pairs-tried x p (above ps p) s) (members 64 ps) st
+      evens-tried : (u below : ℕ) (s : X) → evenLoop G attempt us d k r u below s ≡ through (attempt us d) (evens u below) s
+      unfolding evenLoop evens
+      evens-tried u below s =
+          through-each (attempt us d) (λ x. tips x (bitAnd (nbrs G x) below)) (λ x s. tipLoop G attempt us d k r x (bitAnd (nbrs G x) below) s)
+          (λ x s. tips-tried x (bitAnd (nbrs G x) below) s) (members 64 u) s
 
-    evens-tried : (u below : ℕ) (st : State) → evenLoop G (tried G) us d k r u below st ≡ through attempt (evens u below) st
-    unfolding evenLoop evens
-    evens-tried u below st =
-        through-each attempt (λ x. tips x (bitAnd (nbrs G x) below)) (λ x st. tipLoop G (tried G) us d k r x (bitAnd (nbrs G x) below) st)
-        (λ x s. tips-tried x (bitAnd (nbrs G x) below) s) (members 64 u) st
+    -- The loops under r try them, one after the other.
+    pub seek-found : (us : List ℕ) (s : X)
+        → seek G attempt k r us s ≡ through (attempt us (depth k)) (found (getD us (k / 2) 0) (getD us (k / 2 - 1) 0)) s
+    unfolding seek found
+    seek-found us s = go (eqb (k % 2) 1) refl
+      where
+        u : ℕ
+        u = getD us (k / 2) 0
 
-  -- The loops under r try them, one after the other.
-  pub seek-found : (us : List ℕ) (st : State)
-      → seek G (tried G) k r us st ≡ through (λ f st. tried G us (depth k) f st) (found (getD us (k / 2) 0) (getD us (k / 2 - 1) 0)) st
-  unfolding seek found
-  seek-found us st = go (eqb (k % 2) 1) refl
-    where
-      u : ℕ
-      u = getD us (k / 2) 0
+        below : ℕ
+        below = getD us (k / 2 - 1) 0
 
-      below : ℕ
-      below = getD us (k / 2 - 1) 0
-
-      go : (b : Bool) → eqb (k % 2) 1 ≡ b → cond b (oddLoop G (tried G) us (k / 2) k r u st) (evenLoop G (tried G) us (k / 2 - 1) k r u below st)
-          ≡ through (λ f st. tried G us (depth k) f st) (cond b (odds u) (evens u below)) st
-      go true e =
-          let same : k / 2 ≡ depth k = omega (arith, eqb-true (k % 2) 1 e) in
-          ap (λ (d : ℕ). oddLoop G (tried G) us d k r u st) same ∙ odds-tried us (depth k) u st
-      go false e =
-          let other : k % 2 ≡ 1 → ⊥ = eqb-false (k % 2) 1 e in
-          let same : k / 2 - 1 ≡ depth k = omega arith in
-          ap (λ (d : ℕ). evenLoop G (tried G) us d k r u below st) same ∙ evens-tried us (depth k) u below st
+        go : (b : Bool) → eqb (k % 2) 1 ≡ b → cond b (oddLoop G attempt us (k / 2) k r u s) (evenLoop G attempt us (k / 2 - 1) k r u below s)
+            ≡ through (attempt us (depth k)) (cond b (odds u) (evens u below)) s
+        go true e =
+            let same : k / 2 ≡ depth k = omega (arith, eqb-true (k % 2) 1 e) in
+            ap (λ (d : ℕ). oddLoop G attempt us d k r u s) same ∙ odds-tried us (depth k) u s
+        go false e =
+            let other : k % 2 ≡ 1 → ⊥ = eqb-false (k % 2) 1 e in
+            let same : k / 2 - 1 ≡ depth k = omega arith in
+            ap (λ (d : ℕ). evenLoop G attempt us d k r u below s) same ∙ evens-tried us (depth k) u below s

@@ -264,7 +264,7 @@ module _ (c : Compound) (rank pre : ℕ → ℕ) (ready : Ready c rank pre) wher
   module _ {k : ℕ} {s : Run} (low : 3 ≤ k) (high : k ≤ c .n) (r : Reached k s) where
     reached-length : let t = lengthLoop (netOf c) (tried (netOf c)) pre k s in Reached (k + 1) (running (t .layers) (settled k (t .state)))
     reached-length =
-        let p = length-pass c rank pre ready k s low high (omega (arith, r .room)) in
+        let p = length-pass c rank pre ready k low high s (omega (arith, r .room)) in
         let told = length-told c rank pre ready k (r .S) (s .state) (p .tries) covered (r .before) (p .items) in
         reached-settled r (p .items) (subst (After c rank pre ready k (r .S) (p .tries) (s .state)) (sym (p .state)) told)
         ((lengthLoop (netOf c) (tried (netOf c)) pre k s) .layers) (p .room ∙ r .room)

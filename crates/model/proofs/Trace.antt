@@ -2,7 +2,7 @@
 use mathlib.Core.Path.{_≡_, refl, sym, ap, ap₂, _∙_, subst}
 use mathlib.Core.Bool.{Bool, true, false, cond}
 use mathlib.Core.List.{List, [], _∷_, _++_, map, append-assoc, append-nil}
-use Prim.Native.Nat.{ℕ, _+_, _-_, _*_, _/_, _^_, _<_, _≤_}
+use Prim.Native.Nat.{ℕ, _+_, _-_, _*_, _/_, _^_, _<_, _≤_, zero-le}
 use native.Mathlib.Decide.{ℕ-discrete}
 use native.Mathlib.Nat.{le-refl, lt-of-le-of-lt, div-mul-le-self}
 use native.Mathlib.Numerals.{add-one}
@@ -24,7 +24,7 @@ use Rattle.bondset.specs.Reduction.{putRow, reduced, used, pushedTag, pivotOf, 
 use Rattle.bondset.proofs.Group.{bondSets}
 use Rattle.bondset.proofs.ReductionModel.{length-putRow}
 use Rattle.bondset.proofs.ReductionTags.{xor-cancel, namedBy-part}
-use Rattle.bondset.proofs.ReductionTheorems.{reduction-rest, reduction-rest-lt, reduction-indep, reduction-push, remains-short}
+use Rattle.bondset.proofs.ReductionTheorems.{reduced-on, reduction-rest, reduction-rest-lt, reduction-indep, reduction-push, remains-short}
 use Rattle.cycles.specs.Compound.{Compound}
 use Rattle.cycles.specs.Ring.{len, Closed, Relevant}
 use Rattle.cycles.specs.Family.{Family, Prototype, Kept}
@@ -125,6 +125,11 @@ span-snoc S M w s = rw append-assoc at (left-of bondSets (w ∷ []) s)
 
 snoc-span : (S M : List ℕ) (w : ℕ) → Span bondSets (S ++ (M ++ (w ∷ []))) w
 snoc-span S M w = subst (λ (xs : List ℕ). Span bondSets xs w) (append-assoc S M (w ∷ [])) (right-of bondSets (S ++ M) (head bondSets))
+
+-- There is room for the candidate if it is to be marked.
+abbrev pub Fits : Try → State → Type 0
+Fits t st =
+    (restShort (t .ring) st ≡ 0 → ⊥) → (reduced (st .rows) (st .pivots) (st .short) (st .marks) (restShort (t .ring) st) ≡ 0 → ⊥) → st .marks < 82
 
 module _ (c : Compound) (rank pre : ℕ → ℕ) (ready : Ready c rank pre) where
   -- Every relevant ring of length k is an event's prototype, up to shorter rings.
@@ -385,6 +390,17 @@ module _ (c : Compound) (rank pre : ℕ → ℕ) (ready : Ready c rank pre) wher
           → Mid S M after → Did (length S) st after (summed t tag (length S + length M) ∷ []) → Step after
 
     module _ {k : ℕ} (h : SpansShort bondSets (len c) (Closed c) k S) (l : t .family .long ≡ k) where
+      new-few : Relevant c (t .ring) → (Span bondSets (S ++ M) (t .ring) → ⊥) → length (S ++ M) < 82
+      new-few r new =
+          closed-few c (ready .sound) (ready .one-piece) (ready .some) (ready .bonds) (Indep.more new (reduction-indep (a .reduction)))
+          (All.cons (r .ring .closed) (a .closed))
+
+      some-relevant : Prototype c rank (t .family) (t .ring) → (restShort (t .ring) st ≡ 0 → ⊥) → Relevant c (t .ring)
+      some-relevant p n =
+          let t′ = prototype-member c (ready .sound) rank p in
+          no-sum-relevant c (ready .sound) (not-span-relevant bondSets (len c) (Closed c) h (t′ .ring .closed) (t′ .long ∙ l)
+          (λ s. n (span-rest-short a (t .ring) s)))
+
       relevant-step : Prototype c rank (t .family) (t .ring) → Relevant c (t .ring)
           → (restShort (t .ring) st ≡ 0 → ⊥)
           → Dec (rest (t .ring) st ≡ 0) → Step (judge t st)
@@ -393,9 +409,7 @@ module _ (c : Compound) (rank pre : ℕ → ℕ) (ready : Ready c rank pre) wher
           (Step.sums p r (sum-expanded z) (sum-mid (tagLong (t .ring) st)) (sum-did (tagLong (t .ring) st)))
       relevant-step p r n (no some) =
           let new : Span bondSets (S ++ M) (t .ring) → ⊥ = λ s. some (span-rest a (t .ring) s) in
-          let few : length (S ++ M) < 82 =
-          closed-few c (ready .sound) (ready .one-piece) (ready .some) (ready .bonds) (Indep.more new (reduction-indep (a .reduction)))
-          (All.cons (r .ring .closed) (a .closed)) in
+          let few : length (S ++ M) < 82 = new-few r new in
           subst Step (sym (judged-marked (t .family) (t .size) (t .ring) st n (short-marks a) some (omega (arith, a .marks))))
           (Step.marks p r new (push-mid (r .ring .closed) new few) push-did)
 
@@ -405,12 +419,7 @@ module _ (c : Compound) (rank pre : ℕ → ℕ) (ready : Ready c rank pre) wher
           (λ kept. relevant-not-span bondSets (len c) (Closed c) h (prototype-member c (ready .sound) rank p .long ∙ l)
           (relevant-no-sum c (ready .sound) (kept-prototype-relevant c (ready .sound) rank kept p)) (rest-span-short a (t .ring) z))
           (judged-passed (t .family) (t .size) (t .ring) st z)
-      prototype-step p (no n) =
-          let t′ = prototype-member c (ready .sound) rank p in
-          relevant-step p
-          (no-sum-relevant c (ready .sound) (not-span-relevant bondSets (len c) (Closed c) h (t′ .ring .closed) (t′ .long ∙ l)
-          (λ s. n (span-rest-short a (t .ring) s)))) n
-          (ℕ-discrete (rest (t .ring) st) 0)
+      prototype-step p (no n) = relevant-step p (some-relevant p n) n (ℕ-discrete (rest (t .ring) st) 0)
 
       given-step : Given c rank pre ready (t .family) (t .ring) → Step (judge t st)
       unfolding bondSets
@@ -418,6 +427,13 @@ module _ (c : Compound) (rank pre : ℕ → ℕ) (ready : Ready c rank pre) wher
           Step.passed n
           (judged-passed (t .family) (t .size) (t .ring) st (span-rest-short a (t .ring) (at bondSets (sym z) (zero bondSets S))))
       given-step (Given.prototype p) = prototype-step p (ℕ-discrete (restShort (t .ring) st) 0)
+
+      given-fits : Given c rank pre ready (t .family) (t .ring) → Fits t st
+      unfolding bondSets
+      given-fits (Given.dropped z n) some new = absurd (some (span-rest-short a (t .ring) (at bondSets (sym z) (zero bondSets S))))
+      given-fits (Given.prototype p) some new =
+          let whole = reduced-on (st .rows) (st .pivots) 0 (st .short) zero-le (t .ring) (st .marks) (short-marks a) in
+          omega (arith, new-few (some-relevant p some) (λ s. new (whole ∙ span-rest a (t .ring) s)), a .marks)
 
   -- ---- all candidates
 
@@ -465,6 +481,38 @@ module _ (c : Compound) (rank pre : ℕ → ℕ) (ready : Ready c rank pre) wher
   told {S = S} {M = M} {st = st} h a All.nil All.nil =
       record { N = M; events = []; steps = Steps.end; mid = a; did = did-none (length S) st }
   told {k} {S} {M} {st} h a (All.cons {x = t} l ls) (All.cons g gs) = told-next a (given-step a t h l g) (λ N b. told h b ls gs)
+
+  begin : {k : ℕ} {S : List ℕ} {st : State} → Before k S st → Mid S [] st
+  begin {k} {S} b =
+      record {
+        roomy = b .roomy;
+        marks = b .marks ∙ ap length (sym (append-nil S));
+        short = b .short;
+        reduction = rw append-nil (b .reduction);
+        closed = rw append-nil (all-map (λ C p. p .0) (b .spans .inside));
+      }
+
+  -- ---- another state that goes along
+
+  step-mid : {S M : List ℕ} {t : Try} {st after : State} (a : Mid S M st) → Step a t after → (N : List ℕ) × Mid S N after
+  step-mid {S} {M} a (Step.passed n e) = (M, subst (Mid S M) (sym e) a)
+  step-mid {M = M} {t = t} a (Step.marks p r n b d) = (M ++ (t .ring ∷ []), b)
+  step-mid {M = M} a (Step.sums p r x b d) = (M, b)
+
+  module _ {Y : Type 0} (R : State → Y → Type 0) (step : Try → Y → Y)
+      (turn : (t : Try) (st : State) (y : Y) → Fits t st → R st y → R (judge t st) (step t y)) where
+    along : {k : ℕ} {S M : List ℕ} {st : State} {ts : List Try} (y : Y) → SpansShort bondSets (len c) (Closed c) k S → Mid S M st
+        → All (λ t. t .family .long ≡ k) ts → All (λ t. Given c rank pre ready (t .family) (t .ring)) ts → R st y
+        → R (through judge ts st) (through step ts y)
+    unfolding through
+    along y h a All.nil All.nil r = r
+    along {st = st} y h a (All.cons {x = t} l ls) (All.cons g gs) r =
+        let (N, b) = step-mid a (given-step a t h l g) in along (step t y) h b ls gs (turn t st y (given-fits a t h l g) r)
+
+    -- What relates two states before and after each candidate that there is room for relates them after all candidates of a length.
+    pub length-along : {k : ℕ} {S : List ℕ} {st : State} {tries : List Try} (y : Y) → Before k S st → Items c rank pre ready k tries → R st y
+        → R (through judge tries st) (through step tries y)
+    length-along y before items r = along y (before .spans) (begin before) (items .long) (items .given) r
 
   -- ---- what the steps say
 
@@ -546,16 +594,6 @@ module _ (c : Compound) (rank pre : ℕ → ℕ) (ready : Ready c rank pre) wher
         here = t .did .here ∙ ap (λ (rows : List Row). rows ++ map rowOf (t .events)) (before .here);
         table = t .did .table;
       }
-    where
-      begin : {k : ℕ} {S : List ℕ} {st : State} → Before k S st → Mid S [] st
-      begin {k} {S} b =
-          record {
-            roomy = b .roomy;
-            marks = b .marks ∙ ap length (sym (append-nil S));
-            short = b .short;
-            reduction = rw append-nil (b .reduction);
-            closed = rw append-nil (all-map (λ C p. p .0) (b .spans .inside));
-          }
 
   -- The marks of the rows are right, whatever their classes.
   pub steps-marks : {S M N : List ℕ} {ts : List Try} {es : List Event} (rows : List Row) → Steps S M ts N es

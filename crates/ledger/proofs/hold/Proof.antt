@@ -5,41 +5,30 @@ use lib.Seq.{set-out}
 use borrow.Author.Needs.{needs}
 use Rattle.ledger.proofs.hold.Statement.{statement}
 use Rattle.ledger.proofs.hold.Tie as tie
-use Rattle.ledger.proofs.hold.Reads as reads
-use Rattle.ledger.proofs.hold.Lts as lts
-use Rattle.std.proofs.num.wrapping_add_u64.Reads as wrapping-add-u64-reads
 
--- src/lib.rt:83:47
 mul-wrapping-add-u64 : tie.Need-mul-wrapping-add-u64
 mul-wrapping-add-u64 c = search needs
 
--- src/lib.rt:83:47
 slice-read-wrapping-add-u64 : tie.Need-slice-read-wrapping-add-u64
 slice-read-wrapping-add-u64 c = search needs
 
--- src/lib.rt:83:20
 wrapping-add-u64-requires : tie.Need-wrapping-add-u64-requires
 wrapping-add-u64-requires c κs = search needs
 
--- src/lib.rt:83:9
 mul-holds : tie.Need-mul-holds
 mul-holds c = search needs
 
--- src/lib.rt:83:9
 slice-write-holds : tie.Need-slice-write-holds
 slice-write-holds c = search needs
 
--- src/lib.rt:79:1
 same-length : tie.Need-same-length
 same-length c = search needs
 
--- src/lib.rt:79:1
 returns : tie.Need-returns
 returns c =
     let a = c .before .before .before .before .args in
     ap (set (a .holds .now) (a .j)) (c .wrapping-add-u64 .ensures)
 
--- src/lib.rt:79:1
 returns-2 : tie.Need-returns-2
 returns-2 c = sym (set-out (c .before .before .args .holds .now) (c .before .before .args .j) _ (c .if1 .left))
 

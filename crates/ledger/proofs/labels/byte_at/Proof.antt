@@ -5,18 +5,13 @@ use native.Mathlib.Omega.{arith}
 use borrow.Author.Needs.{needs}
 use Rattle.ledger.proofs.labels.byte_at.Statement.{statement}
 use Rattle.ledger.proofs.labels.byte_at.Tie as tie
-use Rattle.ledger.proofs.labels.byte_at.Reads as reads
-use Rattle.ledger.proofs.labels.byte_at.Lts as lts
 
--- src/labels.rt:17:16
 shared-slice-read-result : tie.Need-shared-slice-read-result
 shared-slice-read-result c = search needs
 
--- src/labels.rt:17:9
 returns : tie.Need-returns
 returns c = search needs
 
--- src/labels.rt:13:1
 returns-2 : tie.Need-returns-2
 returns-2 c = sym (List·getD-eq-default (c .before .args .bytes .now) 0 (omega arith))
 

@@ -1,23 +1,20 @@
 -- The loop's invariant: what is left of the rings takes the labels to what they are in the end.
-use mathlib.Core.Path.{_≡_, refl, ap, _∙_}
-use Prim.Native.Nat.{ℕ, _-_, _≤_}
+use mathlib.Core.Path.{_≡_, refl, ap, _∙_, subst}
+use Prim.Native.Nat.{ℕ, _-_, _≤_, _<_}
 use native.Mathlib.Omega.{arith}
 use lib.Count.{trailingZeros}
 use lib.ListN.{length}
 use borrow.Author.Needs.{needs}
-use Rattle.bondset.specs.Sets.{value}
+use Rattle.bondset.specs.Sets.{value, lengthTo}
 use Rattle.model.specs.Fold.{through, count}
 use Rattle.model.specs.State.{relabel, joined}
 use Rattle.ledger.proofs.Turns.{turn, turned}
+use Rattle.ledger.proofs.Below.{joined-same}
 use Rattle.ledger.proofs.labels.join.Statement.{statement}
 use Rattle.ledger.proofs.labels.join.Tie as tie
-use Rattle.ledger.proofs.labels.join.Reads as reads
-use Rattle.ledger.proofs.labels.join.Lts as lts
-use Rattle.ledger.proofs.labels.labels_in.Reads as labels-in-reads
-use Rattle.ledger.proofs.labels.relabel.Reads as relabel-reads
 
 abbrev Inv-loop : tie.InvT-loop
-Inv-loop labels₀ from to w j₀ labels j = 
+Inv-loop labels₀ from to w j₀ labels j =
     (from ≤ j) × (length labels ≡ length labels₀)
     × (through (relabel (value w) (trailingZeros 128 (value w))) (count j (to - j)) labels
     ≡ through (relabel (value w) (trailingZeros 128 (value w))) (count from (to - from)) labels₀)
@@ -25,44 +22,49 @@ Inv-loop labels₀ from to w j₀ labels j =
 abbrev μ-loop : tie.MeasureT-loop
 μ-loop labels₀ from to w j₀ labels j = to - j
 
--- src/labels.rt:65:9
 labels-in-requires : tie.Need-labels-in-requires Inv-loop μ-loop
 labels-in-requires c κs = search needs
 
--- src/labels.rt:66:5
+length-requires : tie.Need-length-requires Inv-loop μ-loop
+length-requires c κs = tt
+
+same-length : tie.Need-same-length Inv-loop μ-loop
+same-length c = refl
+
+returns : tie.Need-returns Inv-loop μ-loop
+returns c =
+    let e = c .before .before .before .before .before in
+    let a = e .args in
+    joined-same (a .from) (a .to) (value (a .t)) (a .labels .now) (e .pre .1)
+    (subst (λ (n : ℕ). n < 2) (c .before .length .ensures ∙ ap (lengthTo 128) (c .before .before .labels-in .ensures)) (c .if1 .taken))
+
 loop-holds : tie.Need-loop-holds Inv-loop μ-loop
 loop-holds c = (omega arith, refl, refl)
 
--- src/labels.rt:67:9
 relabel-requires : tie.Need-relabel-requires Inv-loop μ-loop
 relabel-requires c κs = search needs
 
--- src/labels.rt:66:9
 add-j : tie.Need-add-j Inv-loop μ-loop
 add-j c = search needs
 
--- src/labels.rt:66:5
 loop-less : tie.Need-loop-less Inv-loop μ-loop
 loop-less c = search needs
 
--- src/labels.rt:66:5
 loop-again : tie.Need-loop-again Inv-loop μ-loop
 loop-again c =
     let l = c .before .before .before .before .before .loop in
     (omega arith, search needs, turn _ (l .j) _ (l .labels) _ (omega arith) _ (c .before .before .relabel .ensures) (l .inv .2))
 
--- src/labels.rt:60:1
-same-length : tie.Need-same-length Inv-loop μ-loop
-same-length c = search needs
+same-length-2 : tie.Need-same-length-2 Inv-loop μ-loop
+same-length-2 c = search needs
 
--- src/labels.rt:60:1
-returns : tie.Need-returns Inv-loop μ-loop
+returns-2 : tie.Need-returns-2 Inv-loop μ-loop
 unfolding joined
-returns c =
-    let a = c .before .before .before .before .before .args in
+returns-2 c =
+    let a = c .before .before .before .before .before .before .before .args in
     let l = c .before .loop in
     turned _ (l .j) (a .to) (l .labels) _ (omega arith) (l .inv .2)
-    ∙ ap (λ w. through (relabel w (trailingZeros 128 w)) (count (a .from) (a .to - a .from)) (a .labels .now)) (c .before .before .labels-in .ensures)
+    ∙ ap (λ w. through (relabel w (trailingZeros 128 w)) (count (a .from) (a .to - a .from)) (a .labels .now)) (c .before .before .before .before .labels-in .ensures)
 
 pub join-spec : {M : Type 1} → statement M
 join-spec =
@@ -71,10 +73,13 @@ join-spec =
     Inv-loop
     μ-loop
     labels-in-requires
+    length-requires
+    same-length
+    returns
     loop-holds
     relabel-requires
     add-j
     loop-less
     loop-again
-    same-length
-    returns)
+    same-length-2
+    returns-2)

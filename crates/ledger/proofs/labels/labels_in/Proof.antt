@@ -1,7 +1,7 @@
 -- The loop's invariant: what is left of the tag adds what is missing.
-use mathlib.Core.Path.{_≡_, refl, sym, ap, _∙_}
+use mathlib.Core.Path.{_≡_, sym, ap, _∙_}
 use mathlib.Core.List.{List}
-use Prim.Native.Nat.{ℕ, _+_, _*_, _^_, _<_}
+use Prim.Native.Nat.{ℕ, _^_, _<_}
 use native.Mathlib.Omega.{arith}
 use lib.Bits.{bitOr}
 use lib.Count.{trailingZeros}
@@ -16,15 +16,6 @@ use Rattle.model.specs.State.{labelsIn}
 use Rattle.ledger.proofs.Turns.{Without, without-lowest, member-turn, member-turned}
 use Rattle.ledger.proofs.labels.labels_in.Statement.{statement}
 use Rattle.ledger.proofs.labels.labels_in.Tie as tie
-use Rattle.ledger.proofs.labels.labels_in.Reads as reads
-use Rattle.ledger.proofs.labels.labels_in.Lts as lts
-use Rattle.bondset.proofs.empty.Reads as empty-reads
-use Rattle.bondset.proofs.is_empty.Reads as is-empty-reads
-use Rattle.bondset.proofs.lowest.Reads as lowest-reads
-use Rattle.bondset.proofs.single.Reads as single-reads
-use Rattle.bondset.proofs.sum.Reads as sum-reads
-use Rattle.ledger.proofs.labels.byte_at.Reads as byte-at-reads
-use Rattle.ledger.proofs.labels.with.Reads as with-reads
 
 abbrev addLabel : List ℕ → ℕ → ℕ → ℕ
 addLabel labels j acc = bitOr acc (2 ^ getD labels j 0)
@@ -36,41 +27,33 @@ Inv-loop labels rest₀ acc₀ rest acc =
 abbrev μ-loop : tie.MeasureT-loop
 μ-loop labels rest₀ acc₀ rest acc = value rest
 
--- src/labels.rt:40:9
 empty-requires : tie.Need-empty-requires Inv-loop μ-loop
 empty-requires c κs = search needs
 
--- src/labels.rt:41:5
 loop-holds : tie.Need-loop-holds Inv-loop μ-loop
 unfolding labelsIn
 loop-holds c =
     let t = c .before .before .args .t in
     (words-lt 64 (t .hi) (t .lo) (omega arith) (omega arith), ap (through (addLabel (c .before .before .args .labels .now)) (members 128 (value t))) (c .empty .ensures))
 
--- src/labels.rt:41:12
 is-empty-requires : tie.Need-is-empty-requires Inv-loop μ-loop
 is-empty-requires c κs = search needs
 
--- src/labels.rt:42:13
 lowest-requires : tie.Need-lowest-requires Inv-loop μ-loop
 lowest-requires c κs = search needs
 
--- src/labels.rt:43:25
 byte-at-requires : tie.Need-byte-at-requires Inv-loop μ-loop
 byte-at-requires c κs = search needs
 
--- src/labels.rt:43:9
 cast-with : tie.Need-cast-with Inv-loop μ-loop
 cast-with c = search needs
 
 with-requires : tie.Need-with-requires Inv-loop μ-loop
 with-requires c κs = rw (c .byte-at .ensures) (c .before .before .before .before .before .before .before .pre .below _)
 
--- src/labels.rt:44:35
 single-requires : tie.Need-single-requires Inv-loop μ-loop
 single-requires c κs = search needs
 
--- src/labels.rt:44:9
 sum-requires : tie.Need-sum-requires Inv-loop μ-loop
 sum-requires c κs = search needs
 

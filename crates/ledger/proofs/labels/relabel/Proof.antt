@@ -1,5 +1,5 @@
 -- A label in the set becomes the lowest of the set.
-use mathlib.Core.Path.{refl, sym, ap, _∙_}
+use mathlib.Core.Path.{sym, ap, _∙_}
 use native.Mathlib.Omega.{arith}
 use lib.Count.{trailing-le}
 use lib.ListN.{set}
@@ -8,47 +8,34 @@ use Rattle.model.specs.State.{relabel as relabelled}
 use borrow.Author.Needs.{needs}
 use Rattle.ledger.proofs.labels.relabel.Statement.{statement}
 use Rattle.ledger.proofs.labels.relabel.Tie as tie
-use Rattle.ledger.proofs.labels.relabel.Reads as reads
-use Rattle.ledger.proofs.labels.relabel.Lts as lts
-use Rattle.bondset.proofs.lowest.Reads as lowest-reads
-use Rattle.bondset.proofs.member.Reads as member-reads
 
--- src/labels.rt:54:27
 slice-read-member : tie.Need-slice-read-member
 slice-read-member c = search needs
 
--- src/labels.rt:54:27
 cast-member : tie.Need-cast-member
 cast-member c = omega (arith, c .slice-known2 .given (c .before .before .args .j))
 
--- src/labels.rt:54:8
 member-requires : tie.Need-member-requires
 member-requires c κs = search needs
 
--- src/labels.rt:55:21
 lowest-requires : tie.Need-lowest-requires
 lowest-requires c κs = search needs
 
--- src/labels.rt:55:21
 cast-labels : tie.Need-cast-labels
 cast-labels c = omega (arith, c .lowest .ensures, trailing-le 128 (value (c .before .before .before .before .before .args .w)))
 
--- src/labels.rt:55:9
 slice-write-labels : tie.Need-slice-write-labels
 slice-write-labels c = search needs
 
--- src/labels.rt:50:1
 same-length : tie.Need-same-length
 same-length c = search needs
 
--- src/labels.rt:50:1
 returns : tie.Need-returns
 unfolding relabelled
 returns c =
     let a = c .before .before .before .before .before .args in
     rw (sym (c .before .before .member .ensures) ∙ c .before .if1 .taken) (ap (set (a .labels .now) (a .j)) (c .lowest .ensures))
 
--- src/labels.rt:50:1
 returns-2 : tie.Need-returns-2
 unfolding relabelled
 returns-2 c = rw (sym (c .before .member .ensures) ∙ c .if1 .left)

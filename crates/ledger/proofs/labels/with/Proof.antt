@@ -1,21 +1,15 @@
 -- The union works on each word.
 use mathlib.Core.Path.{sym, ap, _∙_}
-use native.Mathlib.Omega.{arith}
 use lib.Bits.{bitOr, or-block}
 use Rattle.bondset.specs.Sets.{value}
 use Rattle.bondset.proofs.Laws.{single-below}
 use borrow.Author.Needs.{needs}
 use Rattle.ledger.proofs.labels.with.Statement.{statement}
 use Rattle.ledger.proofs.labels.with.Tie as tie
-use Rattle.ledger.proofs.labels.with.Reads as reads
-use Rattle.ledger.proofs.labels.with.Lts as lts
-use Rattle.bondset.proofs.single.Reads as single-reads
 
--- src/labels.rt:27:9
 single-requires : tie.Need-single-requires
 single-requires c κs = search needs
 
--- src/labels.rt:23:1
 returns : tie.Need-returns
 returns c =
     let a = c .before .before .before .before .before .args .a in

@@ -1,17 +1,12 @@
 -- One family, modulo 65536, or another number.
-use mathlib.Core.Path.{refl}
 use Prim.Native.Nat.{_%_}
 use borrow.Author.Tests.{eq-eqb, ne-eqb}
 use Rattle.ledger.proofs.rows.essential.Statement.{statement}
 use Rattle.ledger.proofs.rows.essential.Tie as tie
-use Rattle.ledger.proofs.rows.essential.Reads as reads
-use Rattle.ledger.proofs.rows.essential.Lts as lts
 
--- src/rows.rt:36:9
 returns : tie.Need-returns
 returns c = rw (eq-eqb (c .before .args .families % 65536) 1 (c .if1 .taken))
 
--- src/rows.rt:32:1
 returns-2 : tie.Need-returns-2
 returns-2 c = rw (ne-eqb (c .before .args .families % 65536) 1 (c .if1 .left))
 

@@ -1,6 +1,6 @@
 -- The loop's invariant: what is left of the rings takes the numbers to what they are in the end.
-use mathlib.Core.Path.{_≡_, refl, sym, subst}
-use Prim.Native.Nat.{_+_, _-_, _≤_}
+use mathlib.Core.Path.{_≡_, refl}
+use Prim.Native.Nat.{_-_, _≤_}
 use native.Mathlib.Omega.{arith}
 use lib.ListN.{length}
 use borrow.Author.Needs.{needs}
@@ -8,12 +8,9 @@ use Rattle.model.specs.Fold.{through, count}
 use Rattle.ledger.specs.Ledger.{numberedIn}
 use Rattle.ledger.specs.Held.{numbersOf}
 use Rattle.ledger.proofs.Turns.{turn, turned}
-use Rattle.ledger.proofs.Below.{Before, numbered-before}
+use Rattle.ledger.proofs.Below.{Before, numbered-after}
 use Rattle.ledger.proofs.rows.number.Statement.{statement}
 use Rattle.ledger.proofs.rows.number.Tie as tie
-use Rattle.ledger.proofs.rows.number.Reads as reads
-use Rattle.ledger.proofs.rows.number.Lts as lts
-use Rattle.ledger.proofs.rows.number_one.Reads as number-one-reads
 
 abbrev Inv-loop : tie.InvT-loop
 Inv-loop labels₀ holds table₀ k from to classes c₀ i₀ labels table c i =
@@ -24,27 +21,22 @@ Inv-loop labels₀ holds table₀ k from to classes c₀ i₀ labels table c i =
 abbrev μ-loop : tie.MeasureT-loop
 μ-loop labels₀ holds table₀ k from to classes c₀ i₀ labels table c i = to - i
 
--- src/rows.rt:125:5
 loop-holds : tie.Need-loop-holds Inv-loop μ-loop
 loop-holds c =
     let p = c .before .before .before .pre in
     (omega arith, omega arith, refl, refl, record { few = omega arith; labelled = p .1 .1 }, refl)
 
--- src/rows.rt:126:9
 number-one-requires : tie.Need-number-one-requires Inv-loop μ-loop
 number-one-requires c κs =
     let b = c .before .before .before .loop .inv .4 .few in
     search needs
 
--- src/rows.rt:125:9
 add-i : tie.Need-add-i Inv-loop μ-loop
 add-i c = search needs
 
--- src/rows.rt:125:5
 loop-less : tie.Need-loop-less Inv-loop μ-loop
 loop-less c = search needs
 
--- src/rows.rt:125:5
 loop-again : tie.Need-loop-again Inv-loop μ-loop
 loop-again c =
     let b = c .before .before .before .before in
@@ -55,19 +47,16 @@ loop-again c =
       omega arith,
       search needs,
       search needs,
-      subst (Before (l .i + 1)) (sym e) (numbered-before (a .k) (a .holds .now) (l .i) (numbersOf (l .labels) (l .c) (l .table)) (omega arith) (l .inv .4)),
+      numbered-after (a .k) (a .holds .now) (l .i) (numbersOf (l .labels) (l .c) (l .table)) _ e (omega arith) (l .inv .4),
       turn (numberedIn (a .k) (a .holds .now)) (l .i) (a .to) (numbersOf (l .labels) (l .c) (l .table)) _ (omega arith) _ e (l .inv .5),
     )
 
--- src/rows.rt:110:1
 same-length : tie.Need-same-length Inv-loop μ-loop
 same-length c = search needs
 
--- src/rows.rt:110:1
 same-length-2 : tie.Need-same-length-2 Inv-loop μ-loop
 same-length-2 c = search needs
 
--- src/rows.rt:110:1
 returns : tie.Need-returns Inv-loop μ-loop
 returns c =
     let l = c .before .loop in

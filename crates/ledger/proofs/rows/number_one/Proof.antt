@@ -4,84 +4,61 @@ use Rattle.ledger.proofs.Numbering.{numbered-opens, numbered-joins, num
 use borrow.Author.Needs.{needs}
 use Rattle.ledger.proofs.rows.number_one.Statement.{statement}
 use Rattle.ledger.proofs.rows.number_one.Tie as tie
-use Rattle.ledger.proofs.rows.number_one.Reads as reads
-use Rattle.ledger.proofs.rows.number_one.Lts as lts
-use Rattle.ledger.proofs.labels.byte_at.Reads as byte-at-reads
-use Rattle.ledger.proofs.rows.more_class.Reads as more-class-reads
-use Rattle.ledger.proofs.rows.put_class.Reads as put-class-reads
 
--- src/rows.rt:84:13
 slice-read-l : tie.Need-slice-read-l
 slice-read-l c = search needs
 
--- src/rows.rt:84:13
 cast-l : tie.Need-cast-l
 cast-l c = omega (arith, c .slice-known3 .given (c .before .before .before .before .args .i))
 
--- src/rows.rt:85:17
 mul-held : tie.Need-mul-held
 mul-held c = search needs
 
--- src/rows.rt:85:17
 shared-slice-read-held : tie.Need-shared-slice-read-held
 shared-slice-read-held c = search needs
 
--- src/rows.rt:87:21
 cast-labels : tie.Need-cast-labels
 cast-labels c = search needs
 
--- src/rows.rt:87:9
 slice-write-labels : tie.Need-slice-write-labels
 slice-write-labels c = search needs
 
--- src/rows.rt:88:9
 put-class-requires : tie.Need-put-class-requires
 put-class-requires c κs = search needs
 
--- src/rows.rt:89:16
 add-result : tie.Need-add-result
 add-result c = search needs
 
--- src/rows.rt:89:9
 same-length : tie.Need-same-length
 same-length c = search needs
 
--- src/rows.rt:89:9
 same-length-2 : tie.Need-same-length-2
 same-length-2 c = search needs
 
--- src/rows.rt:89:9
 returns : tie.Need-returns
 returns c =
     let b = c .before .before .before .before in
     let a = b .before .before .before .before .before .before .args in
     numbered-opens (a .labels .now) (a .holds .now) (a .table .now) (a .k) (a .i) (a .classes) (b .if1 .taken) _ (c .before .before .put-class .ensures)
 
--- src/rows.rt:91:9
 byte-at-requires : tie.Need-byte-at-requires
 byte-at-requires c κs = search needs
 
--- src/rows.rt:92:5
 slice-write-labels-2 : tie.Need-slice-write-labels-2
 slice-write-labels-2 c = search needs
 
--- src/rows.rt:93:13
 cast-c : tie.Need-cast-c
 cast-c c = search needs
 
--- src/rows.rt:95:9
 more-class-requires : tie.Need-more-class-requires
 more-class-requires c κs = search needs
 
--- src/rows.rt:71:1
 same-length-3 : tie.Need-same-length-3
 same-length-3 c = search needs
 
--- src/rows.rt:71:1
 same-length-4 : tie.Need-same-length-4
 same-length-4 c = search needs
 
--- src/rows.rt:71:1
 returns-2 : tie.Need-returns-2
 returns-2 c =
     let b = c .before .before .before .before in
@@ -90,11 +67,9 @@ returns-2 c =
     numbered-joins (a .labels .now) (a .holds .now) (a .table .now) (a .k) (a .i) (a .classes) (d .if1 .left) (b .before .byte-at .result)
     (b .before .byte-at .ensures) (b .if2 .taken) _ (c .before .before .more-class .ensures)
 
--- src/rows.rt:71:1
 same-length-5 : tie.Need-same-length-5
 same-length-5 c = search needs
 
--- src/rows.rt:71:1
 returns-3 : tie.Need-returns-3
 returns-3 c =
     let d = c .before .before .before in

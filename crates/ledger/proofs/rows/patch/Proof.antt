@@ -10,9 +10,6 @@ use Rattle.ledger.specs.Ledger.{patched}
 use Rattle.ledger.proofs.Turns.{turn, turned}
 use Rattle.ledger.proofs.rows.patch.Statement.{statement}
 use Rattle.ledger.proofs.rows.patch.Tie as tie
-use Rattle.ledger.proofs.rows.patch.Reads as reads
-use Rattle.ledger.proofs.rows.patch.Lts as lts
-use Rattle.ledger.proofs.rows.patch_one.Reads as patch-one-reads
 
 abbrev Inv-loop : tie.InvT-loop
 Inv-loop labels out₀ from to end i₀ out i =
@@ -22,26 +19,21 @@ Inv-loop labels out₀ from to end i₀ out i =
 abbrev μ-loop : tie.MeasureT-loop
 μ-loop labels out₀ from to end i₀ out i = end - i
 
--- src/rows.rt:140:5
 loop-holds : tie.Need-loop-holds Inv-loop μ-loop
 loop-holds c =
     let a = c .before .before .before .args in
     let e : c .if1 .end ≡ min (a .to) (length (a .out .now) / 8) = ⊎-elim (λ l. omega (arith, l .1, l .0 .taken)) (λ r. omega (arith, r .1, r .0 .left)) (c .if1 .came) in
     (e, refl, refl)
 
--- src/rows.rt:141:9
 patch-one-requires : tie.Need-patch-one-requires Inv-loop μ-loop
 patch-one-requires c κs = search needs
 
--- src/rows.rt:140:9
 add-i : tie.Need-add-i Inv-loop μ-loop
 add-i c = search needs
 
--- src/rows.rt:140:5
 loop-less : tie.Need-loop-less Inv-loop μ-loop
 loop-less c = search needs
 
--- src/rows.rt:140:5
 loop-again : tie.Need-loop-again Inv-loop μ-loop
 loop-again c =
     let b = c .before .before .before .before .before in
@@ -51,11 +43,9 @@ loop-again c =
       turn (patched (a .labels .now)) (b .loop .i) (b .before .if1 .end) (b .loop .out) _ (omega arith) _ (c .before .before .patch-one .ensures) (b .loop .inv .2),
     )
 
--- src/rows.rt:132:1
 same-length : tie.Need-same-length Inv-loop μ-loop
 same-length c = search needs
 
--- src/rows.rt:132:1
 returns : tie.Need-returns Inv-loop μ-loop
 returns c =
     let l = c .before .loop in

@@ -7,39 +7,28 @@ use Rattle.ledger.specs.Ledger.{patched}
 use borrow.Author.Needs.{needs}
 use Rattle.ledger.proofs.rows.patch_one.Statement.{statement}
 use Rattle.ledger.proofs.rows.patch_one.Tie as tie
-use Rattle.ledger.proofs.rows.patch_one.Reads as reads
-use Rattle.ledger.proofs.rows.patch_one.Lts as lts
-use Rattle.ledger.proofs.labels.byte_at.Reads as byte-at-reads
 
--- src/rows.rt:105:14
 mul-at : tie.Need-mul-at
 mul-at c = search needs
 
--- src/rows.rt:105:14
 add-at : tie.Need-add-at
 add-at c = search needs
 
--- src/rows.rt:106:31
 slice-read-byte-at : tie.Need-slice-read-byte-at
 slice-read-byte-at c = search needs
 
--- src/rows.rt:106:31
 cast-byte-at : tie.Need-cast-byte-at
 cast-byte-at c = omega (arith, c .slice-known2 .given (8 * c .before .before .before .args .i + 6))
 
--- src/rows.rt:106:15
 byte-at-requires : tie.Need-byte-at-requires
 byte-at-requires c κs = search needs
 
--- src/rows.rt:106:5
 slice-write-out : tie.Need-slice-write-out
 slice-write-out c = search needs
 
--- src/rows.rt:101:1
 same-length : tie.Need-same-length
 same-length c = search needs
 
--- src/rows.rt:101:1
 returns : tie.Need-returns
 unfolding patched
 returns c =

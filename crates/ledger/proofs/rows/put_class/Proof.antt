@@ -1,5 +1,4 @@
 -- Five stores are the row.
-use mathlib.Core.Path.{refl}
 use Prim.Native.Nat.{_*_, _/_, _%_}
 use native.Mathlib.Omega.{arith}
 use lib.ListN.{length, length-set}
@@ -9,75 +8,55 @@ use Rattle.ledger.proofs.Stores.{stores-five}
 use borrow.Author.Needs.{needs}
 use Rattle.ledger.proofs.rows.put_class.Statement.{statement}
 use Rattle.ledger.proofs.rows.put_class.Tie as tie
-use Rattle.ledger.proofs.rows.put_class.Reads as reads
-use Rattle.ledger.proofs.rows.put_class.Lts as lts
-use Rattle.ledger.proofs.rows.essential.Reads as essential-reads
 
--- src/rows.rt:47:18
 mul-at : tie.Need-mul-at
 mul-at c = search needs
 
--- src/rows.rt:48:21
 cast-table : tie.Need-cast-table
 cast-table c = search needs
 
--- src/rows.rt:48:9
 slice-write-table : tie.Need-slice-write-table
 slice-write-table c = search needs
 
--- src/rows.rt:49:25
 cast-table-2 : tie.Need-cast-table-2
 cast-table-2 c = search needs
 
--- src/rows.rt:49:15
 add-table : tie.Need-add-table
 add-table c = search needs
 
--- src/rows.rt:49:9
 slice-write-table-2 : tie.Need-slice-write-table-2
 slice-write-table-2 c = simp length-set (omega arith)
 
--- src/rows.rt:50:25
 cast-table-3 : tie.Need-cast-table-3
 cast-table-3 c = search needs
 
--- src/rows.rt:50:15
 add-table-2 : tie.Need-add-table-2
 add-table-2 c = search needs
 
--- src/rows.rt:50:9
 slice-write-table-3 : tie.Need-slice-write-table-3
 slice-write-table-3 c = simp length-set (omega arith)
 
--- src/rows.rt:51:25
 cast-table-4 : tie.Need-cast-table-4
 cast-table-4 c = search needs
 
--- src/rows.rt:51:15
 add-table-3 : tie.Need-add-table-3
 add-table-3 c = search needs
 
--- src/rows.rt:51:9
 slice-write-table-4 : tie.Need-slice-write-table-4
 slice-write-table-4 c = simp length-set (omega arith)
 
--- src/rows.rt:52:25
 essential-requires : tie.Need-essential-requires
 essential-requires c κs = search needs
 
--- src/rows.rt:52:15
 add-table-4 : tie.Need-add-table-4
 add-table-4 c = search needs
 
--- src/rows.rt:52:9
 slice-write-table-5 : tie.Need-slice-write-table-5
 slice-write-table-5 c = simp length-set (omega arith)
 
--- src/rows.rt:42:1
 same-length : tie.Need-same-length
 same-length c = search needs
 
--- src/rows.rt:42:1
 returns : tie.Need-returns
 unfolding classBytes
 returns c =
@@ -85,7 +64,6 @@ returns c =
     rw (lt-ltb (a .c) (length (a .table .now) / 5) (omega arith), c .essential .ensures)
     (stores-five (a .table .now) (5 * a .c) (a .k) (a .rank % 256) (a .families % 256) (a .families / 256 % 256) _ (omega arith))
 
--- src/rows.rt:42:1
 returns-2 : tie.Need-returns-2
 returns-2 c =
     let a = c .before .before .args in

@@ -1,5 +1,4 @@
 -- Eight stores are the row.
-use mathlib.Core.Path.{refl}
 use Prim.Native.Nat.{_*_, _/_}
 use native.Mathlib.Omega.{arith}
 use lib.ListN.{length, length-set}
@@ -9,102 +8,76 @@ use Rattle.ledger.proofs.Stores.{stores-eight}
 use borrow.Author.Needs.{needs}
 use Rattle.ledger.proofs.rows.put_family.Statement.{statement}
 use Rattle.ledger.proofs.rows.put_family.Tie as tie
-use Rattle.ledger.proofs.rows.put_family.Reads as reads
-use Rattle.ledger.proofs.rows.put_family.Lts as lts
 
--- src/rows.rt:17:18
 mul-at : tie.Need-mul-at
 mul-at c = search needs
 
--- src/rows.rt:18:19
 cast-out : tie.Need-cast-out
 cast-out c = search needs
 
--- src/rows.rt:18:9
 slice-write-out : tie.Need-slice-write-out
 slice-write-out c = search needs
 
--- src/rows.rt:19:23
 cast-out-2 : tie.Need-cast-out-2
 cast-out-2 c = search needs
 
--- src/rows.rt:19:13
 add-out : tie.Need-add-out
 add-out c = search needs
 
--- src/rows.rt:19:9
 slice-write-out-2 : tie.Need-slice-write-out-2
 slice-write-out-2 c = simp length-set (omega arith)
 
--- src/rows.rt:20:23
 cast-out-3 : tie.Need-cast-out-3
 cast-out-3 c = search needs
 
--- src/rows.rt:20:13
 add-out-2 : tie.Need-add-out-2
 add-out-2 c = search needs
 
--- src/rows.rt:20:9
 slice-write-out-3 : tie.Need-slice-write-out-3
 slice-write-out-3 c = simp length-set (omega arith)
 
--- src/rows.rt:21:23
 cast-out-4 : tie.Need-cast-out-4
 cast-out-4 c = search needs
 
--- src/rows.rt:21:13
 add-out-3 : tie.Need-add-out-3
 add-out-3 c = search needs
 
--- src/rows.rt:21:9
 slice-write-out-4 : tie.Need-slice-write-out-4
 slice-write-out-4 c = simp length-set (omega arith)
 
--- src/rows.rt:22:23
 cast-out-5 : tie.Need-cast-out-5
 cast-out-5 c = search needs
 
--- src/rows.rt:22:13
 add-out-4 : tie.Need-add-out-4
 add-out-4 c = search needs
 
--- src/rows.rt:22:9
 slice-write-out-5 : tie.Need-slice-write-out-5
 slice-write-out-5 c = simp length-set (omega arith)
 
--- src/rows.rt:23:13
 add-out-5 : tie.Need-add-out-5
 add-out-5 c = search needs
 
--- src/rows.rt:23:9
 slice-write-out-6 : tie.Need-slice-write-out-6
 slice-write-out-6 c = simp length-set (omega arith)
 
--- src/rows.rt:24:23
 cast-out-6 : tie.Need-cast-out-6
 cast-out-6 c = search needs
 
--- src/rows.rt:24:13
 add-out-6 : tie.Need-add-out-6
 add-out-6 c = search needs
 
--- src/rows.rt:24:9
 slice-write-out-7 : tie.Need-slice-write-out-7
 slice-write-out-7 c = simp length-set (omega arith)
 
--- src/rows.rt:25:13
 add-out-7 : tie.Need-add-out-7
 add-out-7 c = search needs
 
--- src/rows.rt:25:9
 slice-write-out-8 : tie.Need-slice-write-out-8
 slice-write-out-8 c = simp length-set (omega arith)
 
--- src/rows.rt:11:1
 same-length : tie.Need-same-length
 same-length c = simp length-set (omega arith)
 
--- src/rows.rt:11:1
 returns : tie.Need-returns
 unfolding putFamily familyBytes
 returns c =
@@ -112,7 +85,6 @@ returns c =
     rw (lt-ltb (a .i) (length (a .out .now) / 8) (omega arith))
     (stores-eight (a .out .now) (8 * a .i) (a .f .k) (a .f .r) (a .f .p) (a .f .q) (a .f .x) (a .mark) (a .class) 0 (omega arith))
 
--- src/rows.rt:11:1
 returns-2 : tie.Need-returns-2
 unfolding putFamily
 returns-2 c =

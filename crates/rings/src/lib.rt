@@ -1,0 +1,1 @@
+// The engine: one compound in, the full answer or one numbered refusal out.
