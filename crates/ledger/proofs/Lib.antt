@@ -4,8 +4,3 @@ pub mod Numbering
 pub mod Below
 pub mod Entered
 pub mod Settled
-pub mod Pasted
-pub mod RowsWritten
-pub mod KeepsRows
-pub mod KeepsClasses
-pub mod Keeps
