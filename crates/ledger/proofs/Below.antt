@@ -9,7 +9,7 @@ use native.Mathlib.Omega.{arith}
 use lib.Bits.{bitOr, or-lt}
 use lib.Count.{trailingZeros}
 use lib.Dec.{eqb}
-use lib.ListN.{length, getD, set}
+use lib.ListN.{length, getD, set, replicate, length-replicate, getD-replicate, List·getD-eq-default}
 use lib.Pow.{pow-pos, pow-lt}
 use lib.Seq.{getD-set-same, getD-set-other, set-getD, set-out}
 use borrow.Author.Tests.{eqb-true}
@@ -38,6 +38,16 @@ labelled-set labels i l h b = record { below = below }
               (lt-or-ge i (length labels))
           | no n ↦ rw (getD-set-other labels i j l 0 n) (h .below j)
         ]
+
+-- so many zeros
+pub labelled-zeros : (n : ℕ) → Labelled (replicate n 0)
+labelled-zeros n = record { below = λ i. ⊎-elim (inside i) (beyond i) (lt-or-ge i n) }
+  where
+    inside : (i : ℕ) → i < n → getD (replicate n 0) i 0 < 128
+    inside i h = rw (getD-replicate {A = ℕ} n i 0 0 h) (omega arith)
+
+    beyond : (i : ℕ) → n ≤ i → getD (replicate n 0) i 0 < 128
+    beyond i h = rw (List·getD-eq-default {A = ℕ} (replicate n 0) 0 {n = i} (rw length-replicate h)) (omega arith)
 
 -- ---- joining
 

@@ -3,8 +3,7 @@
 //! All lists are lent. A kept prototype is marked or joined to a class by `enter`, and `settle` numbers the classes of a length.
 //! Rows that do not fit the lent buffers are counted and not written.
 ghost use mathlib.Core.Path.{_≡_};
-ghost use Prim.Native.Nat.{_+_, _*_, _%_, _/_, _^_, _<_, _≤_};
-ghost use lib.ListN.{length};
+ghost use Prim.Native.Nat.{_<_};
 ghost use Rattle.bondset.specs.Sets.{value};
 ghost use Rattle.ledger.specs.Held.{Small, Sized, Fit, held, Marks, Sums, Enters, Settles};
 use bondset::BondSet;

@@ -1,7 +1,7 @@
 //! Family rows and class rows as bytes, each written if there is room for it.
 ghost use mathlib.Core.Path.{_≡_};
-ghost use Prim.Native.Nat.{_+_, _*_, _%_, _-_, _/_, _^_, _<_, _≤_, min};
-ghost use lib.ListN.{length, getD};
+ghost use Prim.Native.Nat.{_+_, _-_, _*_, _/_, _<_, _≤_, min};
+ghost use lib.ListN.{length};
 ghost use Rattle.model.specs.Fold.{through, count};
 ghost use Rattle.ledger.specs.Ledger.{putFamily, moreClass, numberedIn, patched};
 ghost use Rattle.ledger.specs.Held.{Small, familyOf, essentialMark, putClass, numbersOf, Labelled, Numbered};
