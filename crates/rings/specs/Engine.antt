@@ -59,8 +59,18 @@ begun out table sizes =
     record {
       ledger =
           record {
-            marks = 0; short = 0; families = 0; classes = 0; total = 0; rows = replicate 164 0; tags = replicate 164 0; pivots = replicate 82 0;
-            labels = replicate 82 0; holds = replicate 82 0; out = out; table = table;
+            marks = 0;
+            short = 0;
+            families = 0;
+            classes = 0;
+            total = 0;
+            rows = replicate 164 0;
+            tags = replicate 164 0;
+            pivots = replicate 82 0;
+            labels = replicate 82 0;
+            holds = replicate 82 0;
+            out = out;
+            table = table;
           };
       rings = record { rings = 0; over = false };
       sizes = sizes;

@@ -1,1 +1,108 @@
-// The engine: one compound in, the full answer or one numbered refusal out.
+//! The engine: one compound in, its ring families, one minimum cycle basis and the classes of its rings out, or one
+//! numbered refusal.
+//!
+//! All loops run over lent arrays; nothing is allocated. The loops over lengths, top atoms and candidates compute exactly
+//! what the definitions of `specs/Engine.antt` say.
+ghost use mathlib.Core.Path.{_≡_};
+ghost use Prim.Native.Nat.{ℕ, _<_};
+ghost use lib.ListN.{length, getD};
+ghost use Rattle.answers.specs.Answered.{refused, Answered};
+ghost use Rattle.rings.specs.Calls.{told};
+use ledger::Tally;
+use paths::counting::Count;
+
+mod call;
+pub mod candidates;
+pub mod lengths;
+
+/// What has been counted so far, and the number of rings.
+pub struct Going {
+    /// Marked rings, families, classes and the total length.
+    pub tally: Tally,
+    /// The number of rings.
+    pub rings: Count,
+}
+
+/// What a call answers: five numbers, or a refusal with what it names.
+pub enum Answer {
+    /// The compound is answered in full, and its rows are written.
+    Full {
+        cyclomatic: u64,
+        families: u64,
+        classes: u64,
+        total: u64,
+        rings: u64,
+    },
+    /// 1: no atom, or more than 64.
+    WrongAtoms,
+    /// 2: an odd number of bond bytes, or more than 96 bonds.
+    WrongBytes,
+    /// 3: this bond names an atom that is not there.
+    NoAtom(u64),
+    /// 4: this bond joins an atom to itself.
+    Loop(u64),
+    /// 5: this bond joins two atoms that an earlier one joins.
+    Again(u64),
+    /// 6: the compound is in more than one piece.
+    Pieces,
+    /// 7: so many family rows are needed.
+    FewRows(u64),
+    /// 8: so many class rows are needed.
+    FewClassRows(u64),
+    /// 9: there are more rings than a word can say.
+    ManyRings,
+}
+
+/// An answer, and the size of one family.
+pub struct Sized {
+    /// The answer.
+    pub answer: Answer,
+    /// The size of the family asked for: 0 past the last row, and in a refusal.
+    pub size: u64,
+}
+
+/// The ring families of a compound of `n` atoms, whose bonds are lent as two atom numbers each.
+pub fn families(n: usize, bonds: &[u8], family_rows: &mut [u8], class_rows: &mut [u8]) -> Answer
+    ensures { λ r. ⌜ ((i : ℕ) → (size : ℕ) × Answered n (now (bonds .entry)) (now («family_rows» .entry)) (now («class_rows» .entry)) i (told r size)
+        (now («family_rows» .exit)) (now («class_rows» .exit))) ⌝ }
+{
+    let mut sizes = [0u64; 1];
+    call::answer(n, bonds, 0, family_rows, class_rows, &mut sizes)
+}
+
+/// The same, and the size of the family of a row.
+pub fn family_size(
+    n: usize,
+    bonds: &[u8],
+    family_rows: &mut [u8],
+    class_rows: &mut [u8],
+    row: usize,
+) -> Sized
+    ensures { λ r. ⌜ Answered n (now (bonds .entry)) (now («family_rows» .entry)) (now («class_rows» .entry)) row (told (r .answer) (r .size))
+        (now («family_rows» .exit)) (now («class_rows» .exit)) ⌝ }
+{
+    let mut sizes = [0u64; 1];
+    let answer = call::answer(n, bonds, row, family_rows, class_rows, &mut sizes);
+    Sized {
+        answer,
+        size: sizes[0],
+    }
+}
+
+/// The same, and the sizes of the families of the first rows, as many as `sizes` has room for, 0 past the last row; in a refusal `sizes`
+/// stays as lent.
+pub fn families_sized(
+    n: usize,
+    bonds: &[u8],
+    family_rows: &mut [u8],
+    class_rows: &mut [u8],
+    sizes: &mut [u64],
+) -> Answer
+    ensures answered { λ r. ⌜ ((i : ℕ) → (size : ℕ) × Answered n (now (bonds .entry)) (now («family_rows» .entry)) (now («class_rows» .entry)) i (told r size)
+        (now («family_rows» .exit)) (now («class_rows» .exit))) ⌝ }
+    ensures sized { λ r. ⌜ ((j : ℕ) → j < length (now (sizes .entry)) → Answered n (now (bonds .entry)) (now («family_rows» .entry)) (now («class_rows» .entry)) j
+        (told r (getD (now (sizes .exit)) j 0)) (now («family_rows» .exit)) (now («class_rows» .exit))) ⌝ }
+    ensures kept { λ r. ⌜ ((number at : ℕ) → told r 0 ≡ refused number at → now (sizes .exit) ≡ now (sizes .entry)) ⌝ }
+{
+    call::answer(n, bonds, 0, family_rows, class_rows, sizes)
+}

@@ -1,0 +1,193 @@
+-- The claim of a call from what the engine found and what was delivered.
+use mathlib.Core.Path.{_≡_, refl, sym, ap, _∙_, subst}
+use mathlib.Core.Bool.{true, false}
+use mathlib.Core.Logic.{inl, inr}
+use mathlib.Core.List.{List, [], _∷_}
+use Prim.Native.Nat.{ℕ, zero, suc, _+_, _*_, _/_, _<_, _≤_}
+use native.Mathlib.Omega.{arith}
+use borrow.Author.Tests.{ltb-true, ltb-false}
+use lib.ListN.{length, getD, replicate, length-replicate}
+use lib.Seq.{paste}
+use Rattle.bondset.proofs.Laws.{lt-or-ge}
+use Rattle.cycles.specs.Compound.{Compound, cyclomatic}
+use Rattle.cycles.specs.Refusal.{Accepted}
+use Rattle.cycles.specs.Rows.{Row, Report, Right}
+use Rattle.answers.specs.Answered.{Told, full, refused, Answered, by-input, by-rows, by-class-rows, by-rings, in-full, familyBytes, classBytes, over, sizeOf, familyRoom, classRoom, most}
+use Rattle.answers.proofs.Places.{length-familyBytes, length-classBytes}
+use Rattle.model.specs.Run.{report, reportBy}
+use Rattle.model.proofs.Meets.{report-accepted}
+use Rattle.paths.specs.declared.counting.Count.{Count}
+use Rattle.paths.specs.Counts.{counted}
+use Rattle.compound.specs.Nets.{compound}
+use Rattle.rings.specs.declared.Going.{Going}
+use Rattle.rings.specs.declared.Answer.{Answer}
+use Rattle.rings.specs.declared.Answer.the-variants.{Full, FewRows, FewClassRows, ManyRings}
+use Rattle.rings.specs.Calls.{told, RefusedBy, Reports, Fitting, Delivered, Answers}
+use Rattle.rings.proofs.Copying.{paste-over, getD-past}
+
+-- ---- the number of rings
+
+pub counted-over : (count : Count) (total : ℕ) → count ≡ counted most total → count .over ≡ true → most < total
+unfolding counted
+counted-over count total e over = ltb-true most total (sym (ap (λ (k : Count). k .over) e) ∙ over)
+
+counted-within : (count : Count) (total : ℕ) → count ≡ counted most total → count .over ≡ false → total ≤ most
+unfolding counted
+counted-within count total e over = ltb-false most total (sym (ap (λ (k : Count). k .over) e) ∙ over)
+
+counted-rings : (count : Count) (total : ℕ) → count ≡ counted most total → total ≤ most → count .rings ≡ total
+unfolding counted
+counted-rings count total e within = ap (λ (k : Count). k .rings) e ∙ omega arith
+
+-- None of 7 to 9 holds.
+pub fitting : {c : Compound} {from : ℕ} {out table few out′ table′ few′ rows classRows : List ℕ} {got : Going}
+    → Reports c from out table few got out′ table′ few′
+    → got .tally .families ≤ familyRoom rows → got .tally .classes ≤ classRoom classRows → got .rings .over ≡ false → Fitting c rows classRows
+fitting {c} {got = got} reports f k within =
+    record {
+      families = omega (arith, reports .families);
+      classes = omega (arith, reports .classes);
+      rings = counted-within (got .rings) (report c .rings) (reports .rings) within;
+    }
+
+-- ---- what is delivered
+
+families-count : (c : Compound) → length (familyBytes (report c .rows)) ≡ 8 * report c .families
+unfolding report reportBy
+families-count c = length-familyBytes (report c .rows)
+
+classes-count : (c : Compound) → length (classBytes (report c .classRows)) ≡ 5 * report c .classes
+unfolding report reportBy
+classes-count c = length-classBytes (report c .classRows)
+
+families-length : (c : Compound) → report c .families ≡ length (report c .rows)
+unfolding report reportBy
+families-length c = refl
+
+sizeOf-past : (rows : List Row) (i : ℕ) → length rows ≤ i → sizeOf rows i ≡ 0
+unfolding sizeOf
+sizeOf-past [] i h = refl
+sizeOf-past (row ∷ rows) zero h = absurd (omega arith)
+sizeOf-past (row ∷ rows) (suc i) h = sizeOf-past rows i (omega arith)
+
+zeros : (k : ℕ) → replicate {A = ℕ} k 0 ≡ replicate (length (replicate {A = ℕ} k 0)) 0
+zeros k = rw (length-replicate {A = ℕ} k 0)
+
+module _ {c : Compound} {from : ℕ} {rows classRows sizes rows′ classRows′ sizes′ : List ℕ} (fits : Fitting c rows classRows) where
+  -- The first run's rows and sizes, copied.
+  pub copied-delivered : {got : Going} {out table few : List ℕ} → Reports c from (replicate 128 0) (replicate 40 0) (replicate 16 0) got out table few
+      → got .tally .families ≤ 16 → got .tally .classes ≤ 8
+      → rows′ ≡ paste rows 0 out (8 * got .tally .families) → classRows′ ≡ paste classRows 0 table (5 * got .tally .classes)
+      → ((j : ℕ) → j < length sizes → getD sizes′ j 0 ≡ getD few j 0)
+      → Delivered c from rows classRows sizes rows′ classRows′ sizes′
+  copied-delivered {got} {out} {table} {few} first f k a b s =
+      let room : report c .families ≤ length (replicate {A = ℕ} 128 0) / 8 = omega (arith, first .families, length-replicate {A = ℕ} 128 0) in
+      let class-room : report c .classes ≤ length (replicate {A = ℕ} 40 0) / 5 = omega (arith, first .classes, length-replicate {A = ℕ} 40 0) in
+      let many : report c .families ≤ 4096 = omega (arith, first .families) in
+      record {
+        families =
+            a
+            ∙ rw (first .families, first .rows room) (paste-over (familyBytes (report c .rows)) (replicate 128 0) rows (8 * report c .families) (families-count c));
+        classes =
+            b
+            ∙ rw (first .classes, first .classRows many class-room)
+            (paste-over (classBytes (report c .classRows)) (replicate 40 0) classRows (5 * report c .classes) (classes-count c));
+        sized = λ j h. s j h ∙ size j;
+      }
+    where
+      size : (j : ℕ) → getD few j 0 ≡ sizeOf (report c .rows) (from + j)
+      size j = elim (lt-or-ge j 16) [
+        | inl l ↦ first .sized (zeros 16) (fits .rings) j (omega (arith, l, length-replicate {A = ℕ} 16 0))
+        | inr l ↦
+            getD-past few j (omega (arith, first .sizesKept, length-replicate {A = ℕ} 16 0))
+            ∙ sym (sizeOf-past (report c .rows) (from + j) (omega (arith, families-length c, first .families)))
+      ]
+
+  -- Another run into the lent buffers.
+  pub again-delivered : {got : Going} {cleared : List ℕ} → cleared ≡ replicate (length sizes) 0
+      → Reports c from rows classRows cleared got rows′ classRows′ sizes′
+      → Delivered c from rows classRows sizes rows′ classRows′ sizes′
+  again-delivered {cleared = cleared} e again =
+      record {
+        families = again .rows (omega (arith, fits .families));
+        classes = again .classRows (omega (arith, fits .families)) (omega (arith, fits .classes));
+        sized = λ j h. again .sized (rw e (zeros (length sizes))) (fits .rings) j (rw (e, length-replicate {A = ℕ} (length sizes) 0) h);
+      }
+
+-- ---- the claim
+
+-- The report of the compound.
+abbrev reported : ℕ → List ℕ → Report
+reported n bonds = report (compound n bonds)
+
+full-refused : {cycles families classes total rings size number place : ℕ} → full cycles families classes total rings size ≡ refused number place → ⊥
+full-refused e = let z : _≡_ {A = ℕ} 0 1 = cc in omega arith
+
+module _ {n : ℕ} {bonds : List ℕ} {from : ℕ} {rows classRows sizes : List ℕ} where
+  answers-refused : (a : Answer) (number place : ℕ) → ((size : ℕ) → told a size ≡ refused number place)
+      → ((i : ℕ) → Answered n bonds rows classRows i (refused number place) rows classRows)
+      → Answers n bonds from rows classRows sizes a rows classRows sizes
+  answers-refused a number place tells claim =
+      record {
+        answered = λ i. (0, subst (λ (t : Told). Answered n bonds rows classRows i t rows classRows) (sym (tells 0)) (claim i));
+        sized = λ j h. subst (λ (t : Told). Answered n bonds rows classRows (from + j) t rows classRows) (sym (tells (getD sizes j 0))) (claim (from + j));
+        kept = λ number at e. refl;
+      }
+
+  pub answers-input : {a : Answer} → RefusedBy (compound n bonds) a → Answers n bonds from rows classRows sizes a rows classRows sizes
+  answers-input {a} r = answers-refused a (r .number) (r .place) (r .tells) (λ i. by-input (r .rightly))
+
+  module _ (accepted : Accepted (compound n bonds)) where
+    pub answers-few-rows : {families : ℕ} → families ≡ reported n bonds .families → familyRoom rows < families
+        → Answers n bonds from rows classRows sizes (FewRows families) rows classRows sizes
+    unfolding told
+    answers-few-rows {families} e h =
+        answers-refused (FewRows families) 7 (reported n bonds .families) (λ size. ap (refused 7) e)
+        (λ i. by-rows {R = reported n bonds} accepted (report-accepted (compound n bonds) accepted) (omega arith))
+
+    pub answers-few-class-rows : {classes : ℕ} → reported n bonds .families ≤ familyRoom rows → classes ≡ reported n bonds .classes → classRoom classRows < classes
+        → Answers n bonds from rows classRows sizes (FewClassRows classes) rows classRows sizes
+    unfolding told
+    answers-few-class-rows {classes} f e h =
+        answers-refused (FewClassRows classes) 8 (reported n bonds .classes) (λ size. ap (refused 8) e)
+        (λ i. by-class-rows {R = reported n bonds} accepted (report-accepted (compound n bonds) accepted) f (omega arith))
+
+    pub answers-many-rings : reported n bonds .families ≤ familyRoom rows → reported n bonds .classes ≤ classRoom classRows → most < reported n bonds .rings
+        → Answers n bonds from rows classRows sizes ManyRings rows classRows sizes
+    unfolding told
+    answers-many-rings f k h =
+        answers-refused ManyRings 9 0 (λ size. refl) (λ i. by-rings {R = reported n bonds} accepted (report-accepted (compound n bonds) accepted) f k h)
+
+    pub answers-full : {rows′ classRows′ sizes′ : List ℕ} {cycles : ℕ} {got : Going} {out table few out′ table′ few′ : List ℕ}
+        → Reports (compound n bonds) from out table few got out′ table′ few′
+        → Fitting (compound n bonds) rows classRows
+        → Delivered (compound n bonds) from rows classRows sizes rows′ classRows′ sizes′
+        → cycles ≡ cyclomatic (compound n bonds)
+        → Answers n bonds from rows classRows sizes (Full cycles (got .tally .families) (got .tally .classes) (got .tally .total) (got .rings .rings))
+        rows′ classRows′ sizes′
+    unfolding told
+    answers-full {rows′} {classRows′} {sizes′} {cycles} {got} reports fits delivered e =
+        record {
+          answered = λ i. (sizeOf (reported n bonds .rows) i, claim i (sizeOf (reported n bonds .rows) i) refl);
+          sized = λ j h. claim (from + j) (getD sizes′ j 0) (delivered .sized j h);
+          kept = λ number at e. absurd (full-refused e);
+        }
+      where
+        right : Right (compound n bonds) (λ a. a) (reported n bonds)
+        right = report-accepted (compound n bonds) accepted
+
+        rings : got .rings .rings ≡ reported n bonds .rings
+        rings = counted-rings (got .rings) (reported n bonds .rings) (reports .rings) (fits .rings)
+
+        claim : (i size : ℕ) → size ≡ sizeOf (reported n bonds .rows) i
+            → Answered n bonds rows classRows i (full cycles (got .tally .families) (got .tally .classes) (got .tally .total) (got .rings .rings) size) rows′ classRows′
+        claim i size is =
+            rw (is, e ∙ sym (right .cyclomatic-is), reports .families, reports .classes, reports .total, rings, delivered .families, delivered .classes)
+            (in-full {R = reported n bonds} accepted right (fits .families) (fits .classes) (fits .rings))
+
+-- The claim at a row, with its size.
+pub answers-at : {n : ℕ} {bonds : List ℕ} {from : ℕ} {rows classRows sizes rows′ classRows′ sizes′ : List ℕ} {a : Answer}
+    → Answers n bonds from rows classRows sizes a rows′ classRows′ sizes′ → (i j : ℕ) → from + j ≡ i → j < length sizes
+    → Answered n bonds rows classRows i (told a (getD sizes′ j 0)) rows′ classRows′
+answers-at {n} {bonds} {from} {rows} {classRows} {sizes} {rows′} {classRows′} {sizes′} {a} claims i j e h =
+    subst (λ (i : ℕ). Answered n bonds rows classRows i (told a (getD sizes′ j 0)) rows′ classRows′) e (claims .sized j h)
