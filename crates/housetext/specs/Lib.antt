@@ -1,0 +1,5 @@
+-- The definitions that the contracts cite.
+pub mod Decimal
+pub mod Text
+pub mod Scan
+pub mod Listing
