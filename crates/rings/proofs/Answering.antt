@@ -12,7 +12,8 @@ use Rattle.bondset.proofs.Laws.{lt-or-ge}
 use Rattle.cycles.specs.Compound.{Compound, cyclomatic}
 use Rattle.cycles.specs.Refusal.{Accepted}
 use Rattle.cycles.specs.Rows.{Row, Report, Right}
-use Rattle.answers.specs.Answered.{Told, full, refused, Answered, by-input, by-rows, by-class-rows, by-rings, in-full, familyBytes, classBytes, over, sizeOf, familyRoom, classRoom, most}
+use Rattle.answers.specs.Answered.{Told, full, refused, Answered, by-input, by-rows, by-class-rows, by-rings, in-full}
+use Rattle.answers.specs.Answered.{familyBytes, classBytes, over, sizeOf, familyRoom, classRoom, most}
 use Rattle.answers.proofs.Places.{length-familyBytes, length-classBytes}
 use Rattle.model.specs.Run.{report, reportBy}
 use Rattle.model.proofs.Meets.{report-accepted}
@@ -27,6 +28,7 @@ use Rattle.rings.proofs.Copying.{paste-over, getD-past}
 
 -- ---- the number of rings
 
+-- There are more rings than can be told.
 pub counted-over : (count : Count) (total : ℕ) → count ≡ counted most total → count .over ≡ true → most < total
 unfolding counted
 counted-over count total e over = ltb-true most total (sym (ap (λ (k : Count). k .over) e) ∙ over)
@@ -134,10 +136,12 @@ module _ {n : ℕ} {bonds : List ℕ} {from : ℕ} {rows classRows sizes : List 
         kept = λ number at e. refl;
       }
 
+  -- One of 1 to 6.
   pub answers-input : {a : Answer} → RefusedBy (compound n bonds) a → Answers n bonds from rows classRows sizes a rows classRows sizes
   answers-input {a} r = answers-refused a (r .number) (r .place) (r .tells) (λ i. by-input (r .rightly))
 
   module _ (accepted : Accepted (compound n bonds)) where
+    -- Refusal 7.
     pub answers-few-rows : {families : ℕ} → families ≡ reported n bonds .families → familyRoom rows < families
         → Answers n bonds from rows classRows sizes (FewRows families) rows classRows sizes
     unfolding told
@@ -145,19 +149,23 @@ module _ {n : ℕ} {bonds : List ℕ} {from : ℕ} {rows classRows sizes : List 
         answers-refused (FewRows families) 7 (reported n bonds .families) (λ size. ap (refused 7) e)
         (λ i. by-rows {R = reported n bonds} accepted (report-accepted (compound n bonds) accepted) (omega arith))
 
-    pub answers-few-class-rows : {classes : ℕ} → reported n bonds .families ≤ familyRoom rows → classes ≡ reported n bonds .classes → classRoom classRows < classes
+    -- Refusal 8.
+    pub answers-few-class-rows : {classes : ℕ} → reported n bonds .families ≤ familyRoom rows
+        → classes ≡ reported n bonds .classes → classRoom classRows < classes
         → Answers n bonds from rows classRows sizes (FewClassRows classes) rows classRows sizes
     unfolding told
     answers-few-class-rows {classes} f e h =
         answers-refused (FewClassRows classes) 8 (reported n bonds .classes) (λ size. ap (refused 8) e)
         (λ i. by-class-rows {R = reported n bonds} accepted (report-accepted (compound n bonds) accepted) f (omega arith))
 
+    -- Refusal 9.
     pub answers-many-rings : reported n bonds .families ≤ familyRoom rows → reported n bonds .classes ≤ classRoom classRows → most < reported n bonds .rings
         → Answers n bonds from rows classRows sizes ManyRings rows classRows sizes
     unfolding told
     answers-many-rings f k h =
         answers-refused ManyRings 9 0 (λ size. refl) (λ i. by-rings {R = reported n bonds} accepted (report-accepted (compound n bonds) accepted) f k h)
 
+    -- The full answer.
     pub answers-full : {rows′ classRows′ sizes′ : List ℕ} {cycles : ℕ} {got : Going} {out table few out′ table′ few′ : List ℕ}
         → Reports (compound n bonds) from out table few got out′ table′ few′
         → Fitting (compound n bonds) rows classRows

@@ -10,7 +10,7 @@ use lib.ListN.{length}
 use Rattle.cycles.specs.Compound.{Compound, m}
 use Rattle.cycles.specs.Refusal.{WrongAtoms, WrongBytes, Refused, Accepted}
 use Rattle.cycles.proofs.Dimension.{closed-basis, dimension-one-piece-sum}
-use Rattle.model.specs.Fault.{Fault, none, fault, orElse, when, firstOf, bondFault, pieceFault, sizeFault, firstFault}
+use Rattle.model.specs.Fault.{Fault, none, fault, orElse, when, firstOf, bondFault, reached, pieceFault, sizeFault, firstFault}
 use Rattle.model.specs.Layer.{wave}
 use Rattle.model.specs.Net.{adjOf, touchOf}
 use Rattle.model.proofs.Faults.{fault-refused, none-accepted}
@@ -34,10 +34,12 @@ module _ (c : Compound) where
     pub even : length (c .bytes) % 2 ≡ 1 → ⊥
     pub few : m c ≤ 96
 
+  -- Refusal 1.
   pub refused-atoms : WrongAtoms c → RefusedBy c answer.WrongAtoms
   unfolding told
   refused-atoms wrong = record { number = 1; place = 0; tells = λ size. refl; rightly = Refused.atoms wrong }
 
+  -- Refusal 2.
   pub refused-bytes : (WrongAtoms c → ⊥) → WrongBytes c → RefusedBy c answer.WrongBytes
   unfolding told
   refused-bytes right wrong = record { number = 2; place = 0; tells = λ size. refl; rightly = Refused.bytes right wrong }
@@ -62,14 +64,17 @@ module _ (c : Compound) where
     bond-refused {number} {k} e = fault-refused c number k .0 (first-is ∙ ap (λ (f : Fault). orElse f (pieceFault c)) (sym e))
 
     module _ {adj touch : List ℕ} where
+      -- Refusal 3.
       pub refused-no-atom : {k : ℕ} {r : Read} → r ≡ read.NoAtom k → Reading c r adj touch → RefusedBy c (answer.NoAtom k)
       unfolding told faultOf
       refused-no-atom {k} is r = record { number = 3; place = k; tells = λ size. refl; rightly = bond-refused (sym (ap faultOf is) ∙ r .fault) }
 
+      -- Refusal 4.
       pub refused-loop : {k : ℕ} {r : Read} → r ≡ read.Loop k → Reading c r adj touch → RefusedBy c (answer.Loop k)
       unfolding told faultOf
       refused-loop {k} is r = record { number = 4; place = k; tells = λ size. refl; rightly = bond-refused (sym (ap faultOf is) ∙ r .fault) }
 
+      -- Refusal 5.
       pub refused-again : {k : ℕ} {r : Read} → r ≡ read.Again k → Reading c r adj touch → RefusedBy c (answer.Again k)
       unfolding told faultOf
       refused-again {k} is r = record { number = 5; place = k; tells = λ size. refl; rightly = bond-refused (sym (ap faultOf is) ∙ r .fault) }
@@ -86,24 +91,28 @@ module _ (c : Compound) where
         seen : (b : Bool) → b ≡ eqb ((wave (neighbours adj) 0 0 (c .n)) .seen) (2 ^ c .n - 1) → firstFault c ≡ when (not b) (fault 6 0)
         unfolding orElse faultOf pieceFault
         seen b e =
+            let same : (wave (neighbours adj) 0 0 (c .n)) .seen ≡ reached c = ap (λ (xs : List ℕ). (wave (neighbours xs) 0 0 (c .n)) .seen) read-all ∙ reached-same c in
             first-is
             ∙ ap (λ (f : Fault). orElse f (pieceFault c)) (sym (r .fault) ∙ ap faultOf is)
-            ∙ ap (λ (x : ℕ). when (not (eqb x (2 ^ c .n - 1))) (fault 6 0)) (sym (ap (λ (xs : List ℕ). (wave (neighbours xs) 0 0 (c .n)) .seen) read-all ∙ reached-same c))
+            ∙ ap (λ (x : ℕ). when (not (eqb x (2 ^ c .n - 1))) (fault 6 0)) (sym same)
             ∙ ap (λ (b : Bool). when (not b) (fault 6 0)) (sym e)
 
+        -- Refusal 6.
         pub refused-pieces : false ≡ eqb ((wave (neighbours adj) 0 0 (c .n)) .seen) (2 ^ c .n - 1) → RefusedBy c answer.Pieces
         unfolding told when
         refused-pieces e = record { number = 6; place = 0; tells = λ size. refl; rightly = fault-refused c 6 0 .0 (seen false e) }
 
+        -- No refusal.
         pub stands : true ≡ eqb ((wave (neighbours adj) 0 0 (c .n)) .seen) (2 ^ c .n - 1) → length adj ≡ 64 → length touch ≡ 128 → Stands c adj touch
         unfolding when
         stands e a t =
             record { accepted = none-accepted c .0 (seen true e); neighbours = read-all; bonds = touched-all; adjLong = a; touchLong = t }
 
-  -- An accepted compound has 64 atoms at most, and bonds enough to hang together.
+  -- An accepted compound has 64 atoms at most.
   pub accepted-atoms : Accepted c → c .n ≤ 64
   accepted-atoms accepted = accepted-ready c accepted .atoms
 
+  -- An accepted compound has bonds enough to hang together.
   pub accepted-bonds : Accepted c → c .n ≤ m c + 1
   accepted-bonds accepted =
       let ready = accepted-ready c accepted in

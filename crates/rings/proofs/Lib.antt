@@ -11,3 +11,4 @@ pub mod Copying
 pub mod Grounding
 pub mod Reporting
 pub mod Answering
+pub mod Unique

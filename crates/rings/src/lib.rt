@@ -78,8 +78,9 @@ pub fn family_size(
     class_rows: &mut [u8],
     row: usize,
 ) -> Sized
-    ensures { λ r. ⌜ Answered n (now (bonds .entry)) (now («family_rows» .entry)) (now («class_rows» .entry)) row (told (r .answer) (r .size))
+    ensures answered { λ r. ⌜ Answered n (now (bonds .entry)) (now («family_rows» .entry)) (now («class_rows» .entry)) row (told (r .answer) (r .size))
         (now («family_rows» .exit)) (now («class_rows» .exit)) ⌝ }
+    ensures silent { λ r. ⌜ ((number at : ℕ) → told (r .answer) 0 ≡ refused number at → r .size ≡ 0) ⌝ }
 {
     let mut sizes = [0u64; 1];
     let answer = call::answer(n, bonds, row, family_rows, class_rows, &mut sizes);

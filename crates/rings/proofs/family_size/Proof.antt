@@ -1,7 +1,11 @@
 -- The claim with the size of the row.
+use mathlib.Core.Path.{ap}
+use mathlib.Core.List.{List}
+use Prim.Native.Nat.{ℕ}
 use native.Mathlib.Nat.{add-zero}
 use native.Mathlib.Omega.{arith}
 use borrow.Author.Needs.{needs}
+use lib.ListN.{getD}
 use Rattle.rings.proofs.Answering.{answers-at}
 use Rattle.rings.proofs.family_size.Statement.{statement}
 use Rattle.rings.proofs.family_size.Tie as tie
@@ -23,7 +27,9 @@ same-length-2 c = search needs
 
 returns : tie.Need-returns
 returns c =
-    answers-at (c .before .before .before .before .before .answer .ensures) (c .before .before .before .before .before .before .before .before .before .before .before .before .args .row) 0 (add-zero (c .before .before .before .before .before .before .before .before .before .before .before .before .args .row)) (omega arith)
+    let r = c .before .before .before .before .before .answer .ensures in
+    let row = c .before .before .before .before .before .before .before .before .before .before .before .before .args .row in
+    (answers-at r row 0 (add-zero row) (omega arith), λ number at e. ap (λ (sizes : List ℕ). getD sizes 0 0) (r .kept number at e))
 
 pub family-size-spec : {M : Type 1} → statement M
 family-size-spec =

@@ -1,10 +1,26 @@
 -- The refusals in their order, and what is delivered if none holds.
 use native.Mathlib.Omega.{arith}
 use borrow.Author.Needs.{needs}
+use Rattle.compound.specs.Nets.{compound}
+use Rattle.rings.specs.Calls.{Fitting}
 use Rattle.rings.proofs.Grounding.{accepted-bonds}
 use Rattle.rings.proofs.Answering.{counted-over, fitting, answers-few-rows, answers-few-class-rows, answers-many-rings, answers-full}
 use Rattle.rings.proofs.call.accepted.Statement.{statement}
 use Rattle.rings.proofs.call.accepted.Tie as tie
+
+-- None of 7 to 9 holds.
+abbrev Fits : tie.Else3 → Type 0
+Fits c =
+    let a = c .before .before .before .before .before .before .before .before .before .before .before .before .before .before .before .before .before .before .args in
+    Fitting (compound (a .n) (a .bonds .now)) (a .family-rows .now) (a .class-rows .now)
+
+fits : (c : tie.Else3) → Fits c
+fits c =
+    let test2 = c .before .before in
+    let test1 = test2 .before in
+    let room = test1 .before in
+    let called = room .before .before .before .before in
+    fitting (called .report .ensures) (omega (arith, room .room .ensures, test1 .if1 .left)) (test2 .if2 .left) (c .if3 .left)
 
 slice-aggregate-report : tie.Need-slice-aggregate-report
 slice-aggregate-report c = search needs
@@ -16,25 +32,39 @@ slice-aggregate-report-3 : tie.Need-slice-aggregate-report-3
 slice-aggregate-report-3 c = search needs
 
 report-requires : tie.Need-report-requires
-report-requires c κs = c .before .before .before .before .before .before .before .before .before .pre
+report-requires c κs =
+    let start = c .before .before .before .before .before .before .before .before .before in
+    start .pre
 
 room-requires : tie.Need-room-requires
 room-requires c κs = search needs
 
 returns : tie.Need-returns
 returns c =
-    answers-few-rows (c .before .before .before .before .before .before .before .before .before .before .before .before .before .before .before .pre .accepted) (c .before .before .before .before .before .report .ensures .families) (omega (arith, c .before .room .ensures, c .if1 .taken))
+    let room = c .before in
+    let called = room .before .before .before .before in
+    let start = called .before .before .before .before .before .before .before .before .before .before in
+    answers-few-rows (start .pre .accepted) (called .report .ensures .families) (omega (arith, room .room .ensures, c .if1 .taken))
 
 returns-2 : tie.Need-returns-2
 returns-2 c =
-    let r = c .before .before .before .before .before .before .report .ensures in
-    answers-few-class-rows (c .before .before .before .before .before .before .before .before .before .before .before .before .before .before .before .before .pre .accepted) (omega (arith, c .before .before .room .ensures, c .before .if1 .left, r .families)) (r .classes) (c .if2 .taken)
+    let test = c .before in
+    let room = test .before in
+    let called = room .before .before .before .before in
+    let start = called .before .before .before .before .before .before .before .before .before .before in
+    let r = called .report .ensures in
+    answers-few-class-rows (start .pre .accepted) (omega (arith, room .room .ensures, test .if1 .left, r .families)) (r .classes) (c .if2 .taken)
 
 returns-3 : tie.Need-returns-3
 returns-3 c =
-    let r = c .before .before .before .before .before .before .before .before .report .ensures in
-    answers-many-rings (c .before .before .before .before .before .before .before .before .before .before .before .before .before .before .before .before .before .before .pre .accepted) (omega (arith, c .before .before .before .before .room .ensures, c .before .before .before .if1 .left, r .families)) (omega (arith, c .before .before .if2 .left, r .classes))
-    (counted-over _ _ (r .rings) (c .if3 .taken))
+    let test2 = c .before .before in
+    let test1 = test2 .before in
+    let room = test1 .before in
+    let called = room .before .before .before .before in
+    let start = called .before .before .before .before .before .before .before .before .before .before in
+    let r = called .report .ensures in
+    answers-many-rings (start .pre .accepted) (omega (arith, room .room .ensures, test1 .if1 .left, r .families))
+    (omega (arith, test2 .if2 .left, r .classes)) (counted-over _ _ (r .rings) (c .if3 .taken))
 
 slice-aggregate-deliver : tie.Need-slice-aggregate-deliver
 slice-aggregate-deliver c = search needs
@@ -46,17 +76,17 @@ slice-aggregate-deliver-3 : tie.Need-slice-aggregate-deliver-3
 slice-aggregate-deliver-3 c = search needs
 
 deliver-requires : tie.Need-deliver-requires
-deliver-requires c κs = (
-  c .before .before .before .before .before .before .before .before .before .before .before .before .before .before .before .before .before .before .before .before .before .before .before .before .pre,
-  (
-    c .before .before .before .before .before .before .before .before .before .before .before .before .before .before .report .ensures,
-    fitting (c .before .before .before .before .before .before .before .before .before .before .before .before .before .before .report .ensures) (omega (arith, c .before .before .before .before .before .before .before .before .before .before .room .ensures, c .before .before .before .before .before .before .before .before .before .if1 .left)) (c .before .before .before .before .before .before .before .before .if2 .left) (c .before .before .before .before .before .before .if3 .left),
-  ),
-)
+deliver-requires c κs =
+    let test = c .before .before .before .before .before .before in
+    let called = test .before .before .before .before .before .before .before .before in
+    let start = called .before .before .before .before .before .before .before .before .before .before in
+    (start .pre, (called .report .ensures, fits test))
 
 cyclomatic-requires : tie.Need-cyclomatic-requires
 cyclomatic-requires c κs =
-    accepted-bonds _ (c .before .before .before .before .before .before .before .before .before .before .before .before .before .before .before .before .before .before .before .before .before .before .before .before .before .before .before .before .before .before .before .pre .accepted)
+    let called = c .before .before .before .before .before .before .before .before .before .before .before .before .before .before .before .before .before .before .before .before .before in
+    let start = called .before .before .before .before .before .before .before .before .before .before in
+    accepted-bonds _ (start .pre .accepted)
 
 same-length : tie.Need-same-length
 same-length c = search needs
@@ -69,9 +99,11 @@ same-length-3 c = search needs
 
 returns-4 : tie.Need-returns-4
 returns-4 c =
-    answers-full (c .before .before .before .before .before .before .before .before .before .before .before .before .before .before .before .before .before .before .before .before .before .before .before .before .before .before .before .before .before .before .before .before .pre .accepted) (c .before .before .before .before .before .before .before .before .before .before .before .before .before .before .before .before .before .before .before .before .before .before .report .ensures)
-    (fitting (c .before .before .before .before .before .before .before .before .before .before .before .before .before .before .before .before .before .before .before .before .before .before .report .ensures) (omega (arith, c .before .before .before .before .before .before .before .before .before .before .before .before .before .before .before .before .before .before .room .ensures, c .before .before .before .before .before .before .before .before .before .before .before .before .before .before .before .before .before .if1 .left)) (c .before .before .before .before .before .before .before .before .before .before .before .before .before .before .before .before .if2 .left) (c .before .before .before .before .before .before .before .before .before .before .before .before .before .before .if3 .left))
-    (c .before .before .before .before .before .before .before .deliver .ensures) (c .cyclomatic .ensures)
+    let delivered = c .before .before .before .before .before .before .before in
+    let test = delivered .before .before .before .before .before .before .before in
+    let called = test .before .before .before .before .before .before .before .before in
+    let start = called .before .before .before .before .before .before .before .before .before .before in
+    answers-full (start .pre .accepted) (called .report .ensures) (fits test) (delivered .deliver .ensures) (c .cyclomatic .ensures)
 
 pub accepted-spec : {M : Type 1} → statement M
 accepted-spec =

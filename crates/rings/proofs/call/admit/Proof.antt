@@ -7,11 +7,24 @@ use borrow.Author.Needs.{needs}
 use lib.ListN.{length, length-replicate}
 use Rattle.bondset.proofs.Laws.{pos-of-ne}
 use Rattle.cycles.specs.Compound.{Compound}
+use Rattle.cycles.specs.Refusal.{WrongAtoms}
 use Rattle.compound.specs.Nets.{compound}
 use Rattle.rings.specs.Calls.{standing, refusing}
 use Rattle.rings.proofs.Grounding.{Within, refused-atoms, refused-bytes, refused-no-atom, refused-loop, refused-again, refused-pieces, stands}
 use Rattle.rings.proofs.call.admit.Statement.{statement}
 use Rattle.rings.proofs.call.admit.Tie as tie
+
+right : (c : tie.Else2) → WrongAtoms (compound (c .before .before .before .before .before .args .n) (c .before .before .before .before .before .args .bonds .now)) → ⊥
+right c wrong = elim wrong [ inl z ↦ c .before .if1 .left z | inr z ↦ omega (arith, z, c .if2 .left) ]
+
+-- The input, where neither 1 nor 2 is given.
+abbrev input : tie.Else4 → Compound
+input c =
+    let a = c .before .before .before .before .before .before .before .args in
+    compound (a .n) (a .bonds .now)
+
+within : (c : tie.Else4) → Within (input c)
+within c = record { some = pos-of-ne _ (c .before .before .before .if1 .left); atoms = c .before .before .if2 .left; even = c .before .if3 .left; few = c .if4 .left }
 
 returns : tie.Need-returns
 returns c = refusing (refused-atoms _ (inl (c .if1 .taken)))
@@ -20,12 +33,10 @@ returns-2 : tie.Need-returns-2
 returns-2 c = refusing (refused-atoms _ (inr (c .if2 .taken)))
 
 returns-3 : tie.Need-returns-3
-returns-3 c =
-    refusing (refused-bytes _ (λ w. elim w [ inl z ↦ c .before .before .if1 .left z | inr z ↦ omega (arith, z, c .before .if2 .left) ]) (inl (c .if3 .taken)))
+returns-3 c = refusing (refused-bytes _ (right (c .before)) (inl (c .if3 .taken)))
 
 returns-4 : tie.Need-returns-4
-returns-4 c =
-    refusing (refused-bytes _ (λ w. elim w [ inl z ↦ c .before .before .before .if1 .left z | inr z ↦ omega (arith, z, c .before .before .if2 .left) ]) (inr (c .if4 .taken)))
+returns-4 c = refusing (refused-bytes _ (right (c .before .before)) (inr (c .if4 .taken)))
 
 read-requires : tie.Need-read-requires
 read-requires c κs = search needs
@@ -41,15 +52,10 @@ same-length-2 c = search needs
 
 returns-5 : tie.Need-returns-5
 returns-5 c =
-    let a = c .before .before .before .before .before .before .before .before .before .before .before .before .before .before .before .before .before .args in
-    let k : Compound = compound (a .n) (a .bonds .now) in
-    let within : Within k = record {
-      some = pos-of-ne _ (c .before .before .before .before .before .before .before .before .before .before .before .before .before .if1 .left);
-      atoms = c .before .before .before .before .before .before .before .before .before .before .before .before .if2 .left;
-      even = c .before .before .before .before .before .before .before .before .before .before .before .if3 .left;
-      few = c .before .before .before .before .before .before .before .before .before .before .if4 .left;
-    } in
-    refusing (refused-no-atom k within (c .before .found .given .1) (c .before .before .before .before .before .before .before .read .ensures))
+    let arm = c .before in
+    let called = arm .before .before .before .before .before .before in
+    let test = called .before .before .before in
+    refusing (refused-no-atom (input test) (within test) (arm .found .given .1) (called .read .ensures))
 
 enum-known-found-2 : tie.Need-enum-known-found-2
 enum-known-found-2 c = search needs
@@ -62,15 +68,10 @@ same-length-4 c = search needs
 
 returns-6 : tie.Need-returns-6
 returns-6 c =
-    let a = c .before .before .before .before .before .before .before .before .before .before .before .before .before .before .before .before .before .args in
-    let k : Compound = compound (a .n) (a .bonds .now) in
-    let within : Within k = record {
-      some = pos-of-ne _ (c .before .before .before .before .before .before .before .before .before .before .before .before .before .if1 .left);
-      atoms = c .before .before .before .before .before .before .before .before .before .before .before .before .if2 .left;
-      even = c .before .before .before .before .before .before .before .before .before .before .before .if3 .left;
-      few = c .before .before .before .before .before .before .before .before .before .before .if4 .left;
-    } in
-    refusing (refused-loop k within (c .before .found2 .given .1) (c .before .before .before .before .before .before .before .read .ensures))
+    let arm = c .before in
+    let called = arm .before .before .before .before .before .before in
+    let test = called .before .before .before in
+    refusing (refused-loop (input test) (within test) (arm .found2 .given .1) (called .read .ensures))
 
 enum-known-found-3 : tie.Need-enum-known-found-3
 enum-known-found-3 c = search needs
@@ -83,24 +84,21 @@ same-length-6 c = search needs
 
 returns-7 : tie.Need-returns-7
 returns-7 c =
-    let a = c .before .before .before .before .before .before .before .before .before .before .before .before .before .before .before .before .before .args in
-    let k : Compound = compound (a .n) (a .bonds .now) in
-    let within : Within k = record {
-      some = pos-of-ne _ (c .before .before .before .before .before .before .before .before .before .before .before .before .before .if1 .left);
-      atoms = c .before .before .before .before .before .before .before .before .before .before .before .before .if2 .left;
-      even = c .before .before .before .before .before .before .before .before .before .before .before .if3 .left;
-      few = c .before .before .before .before .before .before .before .before .before .before .if4 .left;
-    } in
-    refusing (refused-again k within (c .before .found3 .given .1) (c .before .before .before .before .before .before .before .read .ensures))
+    let arm = c .before in
+    let called = arm .before .before .before .before .before .before in
+    let test = called .before .before .before in
+    refusing (refused-again (input test) (within test) (arm .found3 .given .1) (called .read .ensures))
 
 enum-told : tie.Need-enum-told
 enum-told c = search needs
 
 in-one-piece-requires : tie.Need-in-one-piece-requires
-in-one-piece-requires c κs = (
-  pos-of-ne _ (c .before .before .before .before .before .before .before .before .before .before .before .before .before .if1 .left),
-  (c .before .before .before .before .before .before .before .before .before .before .before .before .if2 .left, omega (arith, c .before .before .before .before .before .before .before .read .kept .1 .1 .0, ap length (c .before .before .before .before .before .before .before .before .before .before .before .before .before .before .before .before .before .pre .0), length-replicate {A = ℕ} 64 0)),
-)
+in-one-piece-requires c κs =
+    let called = c .before .before .before .before .before .before .before in
+    let test = called .before .before .before in
+    let start = test .before .before .before .before .before .before .before in
+    let long = ap length (start .pre .0) ∙ length-replicate {A = ℕ} 64 0 in
+    (within test .some, (within test .atoms, omega (arith, called .read .kept .1 .1 .0, long)))
 
 same-length-7 : tie.Need-same-length-7
 same-length-7 c = search needs
@@ -110,16 +108,15 @@ same-length-8 c = search needs
 
 returns-8 : tie.Need-returns-8
 returns-8 c =
-    let a = c .before .before .before .before .before .before .before .before .before .before .before .before .before .before .before .before .before .before .before .args in
-    let k : Compound = compound (a .n) (a .bonds .now) in
-    let within : Within k = record {
-      some = pos-of-ne _ (c .before .before .before .before .before .before .before .before .before .before .before .before .before .before .before .if1 .left);
-      atoms = c .before .before .before .before .before .before .before .before .before .before .before .before .before .before .if2 .left;
-      even = c .before .before .before .before .before .before .before .before .before .before .before .before .before .if3 .left;
-      few = c .before .before .before .before .before .before .before .before .before .before .before .before .if4 .left;
-    } in
-    standing (stands k within (c .before .before .before .enum-told .given .1) (c .before .before .before .before .before .before .before .before .before .read .ensures) (sym (c .if5 .taken) ∙ c .before .in-one-piece .ensures)
-    (c .before .before .before .before .before .before .before .before .before .read .kept .1 .1 .0 ∙ ap length (c .before .before .before .before .before .before .before .before .before .before .before .before .before .before .before .before .before .before .before .pre .0) ∙ length-replicate {A = ℕ} 64 0) (c .before .before .before .before .before .before .before .before .before .read .kept .1 .1 .1 .0 ∙ ap length (c .before .before .before .before .before .before .before .before .before .before .before .before .before .before .before .before .before .before .before .pre .1) ∙ length-replicate {A = ℕ} 128 0))
+    let asked = c .before in
+    let arm = asked .before .before in
+    let called = arm .before .before .before .before .before .before in
+    let test = called .before .before .before in
+    let start = test .before .before .before .before .before .before .before in
+    let adjLong = called .read .kept .1 .1 .0 ∙ ap length (start .pre .0) ∙ length-replicate {A = ℕ} 64 0 in
+    let touchLong = called .read .kept .1 .1 .1 .0 ∙ ap length (start .pre .1) ∙ length-replicate {A = ℕ} 128 0 in
+    standing
+    (stands (input test) (within test) (arm .enum-told .given .1) (called .read .ensures) (sym (c .if5 .taken) ∙ asked .in-one-piece .ensures) adjLong touchLong)
 
 same-length-9 : tie.Need-same-length-9
 same-length-9 c = search needs
@@ -129,15 +126,12 @@ same-length-10 c = search needs
 
 returns-9 : tie.Need-returns-9
 returns-9 c =
-    let a = c .before .before .before .before .before .before .before .before .before .before .before .before .before .before .before .before .before .before .before .args in
-    let k : Compound = compound (a .n) (a .bonds .now) in
-    let within : Within k = record {
-      some = pos-of-ne _ (c .before .before .before .before .before .before .before .before .before .before .before .before .before .before .before .if1 .left);
-      atoms = c .before .before .before .before .before .before .before .before .before .before .before .before .before .before .if2 .left;
-      even = c .before .before .before .before .before .before .before .before .before .before .before .before .before .if3 .left;
-      few = c .before .before .before .before .before .before .before .before .before .before .before .before .if4 .left;
-    } in
-    refusing (refused-pieces k within (c .before .before .before .enum-told .given .1) (c .before .before .before .before .before .before .before .before .before .read .ensures) (sym (c .if5 .left) ∙ c .before .in-one-piece .ensures))
+    let asked = c .before in
+    let arm = asked .before .before in
+    let called = arm .before .before .before .before .before .before in
+    let test = called .before .before .before in
+    refusing
+    (refused-pieces (input test) (within test) (arm .enum-told .given .1) (called .read .ensures) (sym (c .if5 .left) ∙ asked .in-one-piece .ensures))
 
 pub admit-spec : {M : Type 1} → statement M
 admit-spec =

@@ -18,7 +18,10 @@ enum-known-found : tie.Need-enum-known-found
 enum-known-found c = search needs
 
 returns : tie.Need-returns
-returns c = answers-input (grounded-refused _ (c .before .found .given .1) (c .before .before .before .before .before .admit .ensures))
+returns c =
+    let arm = c .before in
+    let called = arm .before .before .before .before in
+    answers-input (grounded-refused _ (arm .found .given .1) (called .admit .ensures))
 
 enum-told : tie.Need-enum-told
 enum-told c = search needs
@@ -31,7 +34,9 @@ slice-aggregate-accepted-2 c = search needs
 
 accepted-requires : tie.Need-accepted-requires
 accepted-requires c κs =
-    grounded-stands _ (c .before .before .before .before .before .enum-told .given .1) (c .before .before .before .before .before .before .before .before .before .admit .ensures)
+    let arm = c .before .before .before .before .before in
+    let called = arm .before .before .before .before in
+    grounded-stands _ (arm .enum-told .given .1) (called .admit .ensures)
 
 same-length : tie.Need-same-length
 same-length c = search needs

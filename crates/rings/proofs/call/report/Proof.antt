@@ -15,16 +15,17 @@ cyclomatic-requires c κs = accepted-bonds _ (c .before .before .before .before 
 
 tops-requires : tie.Need-tops-requires
 tops-requires c κs =
-    let s = c .before .before .before .before .before .before .before .pre in
-    (accepted-atoms _ (s .accepted), omega (arith, s .adjLong))
+    let start = c .before .before .before .before .before .before .before in
+    (accepted-atoms _ (start .pre .accepted), omega (arith, start .pre .adjLong))
 
 run-requires : tie.Need-run-requires
 run-requires c κs =
-    let s = c .before .before .before .before .before .before .before .before .before .before .before .pre in
-    let a = c .before .before .before .before .before .before .before .before .before .before .before .args in (
-      accepted-atoms _ (s .accepted),
-      (omega (arith, s .adjLong), (omega (arith, s .touchLong), c .before .before .before .tops .ensures ∙ tops-same (graph (a .n) (a .adj .now) (a .touch .now)) preceding)),
-    )
+    let called = c .before .before .before in
+    let start = called .before .before .before .before .before .before .before .before in
+    let s = start .pre in
+    let a = start .args in
+    let same = tops-same (graph (a .n) (a .adj .now) (a .touch .now)) preceding in
+    (accepted-atoms _ (s .accepted), (omega (arith, s .adjLong), (omega (arith, s .touchLong), called .tops .ensures ∙ same)))
 
 same-length : tie.Need-same-length
 same-length c = search needs
@@ -37,7 +38,10 @@ same-length-3 c = search needs
 
 returns : tie.Need-returns
 returns c =
-    run-reports (c .before .before .before .before .before .before .before .before .before .before .before .before .before .before .before .before .before .before .pre) (c .before .before .before .before .before .before .before .before .before .before .before .cyclomatic .ensures) (c .before .before .before .before .before .before .run .ensures)
+    let called = c .before .before .before .before .before .before in
+    let number = called .before .before .before .before .before in
+    let start = number .before .before .before .before .before .before .before in
+    run-reports (start .pre) (number .cyclomatic .ensures) (called .run .ensures)
 
 pub report-spec : {M : Type 1} → statement M
 report-spec =
