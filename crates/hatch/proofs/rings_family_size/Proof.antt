@@ -1,0 +1,30 @@
+-- The engine's claim with the size, read from the reply.
+use mathlib.Core.Path.{sym, ap, _∙_}
+use borrow.Author.Needs.{needs}
+use Rattle.hatch.specs.Replies.{replyOf}
+use Rattle.hatch.proofs.Telling.{toldBy-made, answered-as}
+use Rattle.hatch.proofs.rings_family_size.Statement.{statement}
+use Rattle.hatch.proofs.rings_family_size.Tie as tie
+
+family-size-requires : tie.Need-family-size-requires
+family-size-requires c κs = search needs
+
+replied-requires : tie.Need-replied-requires
+replied-requires c κs = search needs
+
+same-length : tie.Need-same-length
+same-length c = search needs
+
+same-length-2 : tie.Need-same-length-2
+same-length-2 c = search needs
+
+returns : tie.Need-returns
+returns c =
+    let made = c .replied .ensures in
+    let f = c .before .before .before .before .before .family-size in
+    let tells = toldBy-made (f .result .answer) (f .result .size) made in
+    (answered-as tells (f .ensures .0), made ∙ ap replyOf (sym tells))
+
+pub rings-family-size-spec : {M : Type 1} → statement M
+rings-family-size-spec =
+    tie.close (tie.spec family-size-requires replied-requires same-length same-length-2 returns)

@@ -1,0 +1,111 @@
+//! The engine's calls for C and Rust. A slice passes as a pointer and a length. No call asks anything of its caller.
+ghost use mathlib.Core.Path.{_≡_};
+ghost use Prim.Native.Nat.{ℕ};
+ghost use Rattle.answers.specs.Answered.{Answered};
+ghost use Rattle.rings.specs.Calls.{told};
+ghost use Rattle.hatch.specs.Replies.{toldBy, replyOf, withSize};
+use rings::Answer;
+
+/// What a call answers: a refusal's number and what it names, or 0 twice and the numbers. In a refusal the numbers are 0.
+#[repr(C)]
+pub struct Reply {
+    /// 0 if the compound is answered in full, or the refusal's number, 1 to 9.
+    pub refusal: u64,
+    /// What the refusal names: a bond (3 to 5) or the number of rows needed (7, 8); 0 otherwise.
+    pub at: u64,
+    /// Bonds less atoms, and 1.
+    pub cyclomatic: u64,
+    /// The number of family rows written.
+    pub families: u64,
+    /// The number of class rows written.
+    pub classes: u64,
+    /// The total length of the basis.
+    pub total: u64,
+    /// The number of relevant rings: the sum of the sizes.
+    pub rings: u64,
+    /// The size of the family asked for; 0 past the last row, and in a call that asks for none.
+    pub size: u64,
+}
+
+/// The reply that refuses.
+fn refusal(number: u64, at: u64) -> Reply
+    ensures { λ r. ⌜ r ≡ record { refusal = number; at = at; cyclomatic = 0; families = 0; classes = 0; total = 0; rings = 0; size = 0 } ⌝ }
+{
+    Reply {
+        refusal: number,
+        at,
+        cyclomatic: 0,
+        families: 0,
+        classes: 0,
+        total: 0,
+        rings: 0,
+        size: 0,
+    }
+}
+
+/// An answer in fields, with the size asked for.
+fn replied(a: Answer, size: u64) -> Reply
+    ensures { λ r. ⌜ r ≡ replyOf (told a size) ⌝ }
+{
+    match a {
+        Answer::Full {
+            cyclomatic,
+            families,
+            classes,
+            total,
+            rings,
+        } => Reply {
+            refusal: 0,
+            at: 0,
+            cyclomatic,
+            families,
+            classes,
+            total,
+            rings,
+            size,
+        },
+        Answer::WrongAtoms => refusal(1, 0),
+        Answer::WrongBytes => refusal(2, 0),
+        Answer::NoAtom(bond) => refusal(3, bond),
+        Answer::Loop(bond) => refusal(4, bond),
+        Answer::Again(bond) => refusal(5, bond),
+        Answer::Pieces => refusal(6, 0),
+        Answer::FewRows(needed) => refusal(7, needed),
+        Answer::FewClassRows(needed) => refusal(8, needed),
+        Answer::ManyRings => refusal(9, 0),
+    }
+}
+
+/// The ring families of a compound of `n` atoms, whose bonds are lent as two atom numbers each.
+#[no_mangle]
+pub extern "C" fn rings_families(
+    n: usize,
+    bonds: &[u8],
+    family_rows: &mut [u8],
+    class_rows: &mut [u8],
+) -> Reply
+    ensures answered { λ r. ⌜ ((i : ℕ) → (size : ℕ) × Answered n (now (bonds .entry)) (now («family_rows» .entry)) (now («class_rows» .entry)) i
+        (withSize (toldBy r) size) (now («family_rows» .exit)) (now («class_rows» .exit))) ⌝ }
+    ensures plain { λ r. ⌜ r ≡ replyOf (withSize (toldBy r) 0) ⌝ }
+{
+    let answer = rings::families(n, bonds, family_rows, class_rows);
+    replied(answer, 0)
+}
+
+/// The same, and the size of the family of a row.
+#[no_mangle]
+pub extern "C" fn rings_family_size(
+    n: usize,
+    bonds: &[u8],
+    family_rows: &mut [u8],
+    class_rows: &mut [u8],
+    row: usize,
+) -> Reply
+    ensures answered { λ r. ⌜ Answered n (now (bonds .entry)) (now («family_rows» .entry)) (now («class_rows» .entry)) row (toldBy r)
+        (now («family_rows» .exit)) (now («class_rows» .exit)) ⌝ }
+    ensures plain { λ r. ⌜ r ≡ replyOf (toldBy r) ⌝ }
+{
+    let sized = rings::family_size(n, bonds, family_rows, class_rows, row);
+    let answer = sized.answer;
+    replied(answer, sized.size)
+}

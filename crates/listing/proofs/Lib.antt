@@ -1,0 +1,2 @@
+-- What the proofs of the program's functions cite.
+pub mod Lines
