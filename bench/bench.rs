@@ -4,8 +4,6 @@
 //! out). Rounds go through all loads and engines in turn, so that a disturbance meets all of them; medians are shown. Times are
 //! processor time of the calling thread: what else runs on the computer is not counted, nor are the kit's helping threads.
 
-#[path = "../tests/archive.rs"]
-mod archive;
 #[path = "../tests/compound.rs"]
 mod compound;
 #[path = "../tests/inputs.rs"]
@@ -13,6 +11,8 @@ mod inputs;
 mod page;
 #[path = "../tests/plain.rs"]
 mod plain;
+#[path = "../hatch/rings.rs"]
+mod rings;
 #[path = "../tests/span.rs"]
 mod span;
 mod stack;
@@ -99,7 +99,7 @@ fn loads() -> Vec<Load> {
 
 /// The relevant rings of a load, one full call a compound, with the buffers that the listing program lends.
 fn by_archive(load: &Load, family_rows: &mut [u8], class_rows: &mut [u8]) -> u64 {
-    load.inputs.iter().map(|i| archive::families(i.n, &i.bytes, family_rows, class_rows).rings).sum()
+    load.inputs.iter().map(|i| rings::reply::families(i.n, &i.bytes, family_rows, class_rows).rings).sum()
 }
 
 /// The same by the comparer's plain engine.

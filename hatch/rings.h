@@ -1,15 +1,16 @@
 /* The ring engine for C: one compound in, its ring families, one minimum cycle basis and its classes of rings out.
  *
- * A compound has n atoms, numbered 0 to n - 1, and its bonds, numbered from 0 in the order given. Bond k joins the atoms
- * bonds[2 * k] and bonds[2 * k + 1]; either may come first. The compound has 1 to 64 atoms, at most 96 bonds, and is in
- * one piece; no two bonds join the same two atoms, and none joins an atom to itself.
+ * A compound has n atoms, numbered 0 to n - 1, and its bonds, numbered from 0 in the order given. Bonds are lent as bytes or
+ * as records, and the answer is the same: bond k joins the atoms bonds[2 * k] and bonds[2 * k + 1] of bytes, or bonds[k].a and
+ * bonds[k].b of records; either may come first. The compound has 1 to 64 atoms, at most 96 bonds, and is in one piece; no two
+ * bonds join the same two atoms, and none joins an atom to itself.
  *
  * NOTHING NEEDS TO BE CHECKED BEFORE A CALL. Every input gets the full answer or one numbered refusal, and a refused call
- * leaves both row buffers untouched. All lengths are in bytes. The buffers must not overlap, each must have the length that
- * is said, and no pointer may be NULL, not even with length 0. Nothing is allocated or kept between calls, and calls on
+ * leaves both row buffers untouched. All lengths are in bytes, but for the number of records. The buffers must not overlap, each
+ * must have the length that is said, and no pointer may be NULL, not even with length 0. Nothing is allocated or kept between calls, and calls on
  * different buffers may run at the same time.
  *
- * Both calls write rows from byte 0 of their buffers with no gaps, and leave the bytes after the last row as they were.
+ * All calls write rows from byte 0 of their buffers with no gaps, and leave the bytes after the last row as they were.
  *
  * Family row, 8 bytes. Rows are ordered by length, r, x, p, q.
  *     0  length         the bonds in each ring of the family
@@ -61,6 +62,12 @@ enum rings_refusal {
     RINGS_MANY_RINGS = 9      /* more rings than UINT64_MAX                                                at: 0 */
 };
 
+/* A bond as a record of two bytes. */
+typedef struct {
+    uint8_t a; /* the number of one atom */
+    uint8_t b; /* the number of the other */
+} rings_bond;
+
 /* What a call answers. In a refusal all but refusal and at are 0. */
 typedef struct {
     uint64_t refusal;    /* RINGS_ANSWERED, or why the call is refused */
@@ -70,16 +77,24 @@ typedef struct {
     uint64_t classes;    /* the number of class rows written */
     uint64_t total;      /* the total length of the basis */
     uint64_t rings;      /* the number of relevant rings: the sum of the sizes of all families */
-    uint64_t size;       /* rings_family_size: the number of rings of the family asked for; rings_families: 0 */
+    uint64_t size;       /* the number of rings of the family asked for; 0 past the last row, and in a call that asks for none */
 } rings_reply;
 
-/* The ring families of a compound. */
+/* The ring families of a compound, whose bonds are lent as bytes. */
 rings_reply rings_families(size_t n, const uint8_t *bonds, size_t bond_bytes, uint8_t *family_rows, size_t family_bytes,
                            uint8_t *class_rows, size_t class_bytes);
 
 /* The same in all, and the size of the family of one row, counted from 0; past the last row the size is 0. */
 rings_reply rings_family_size(size_t n, const uint8_t *bonds, size_t bond_bytes, uint8_t *family_rows, size_t family_bytes,
                               uint8_t *class_rows, size_t class_bytes, size_t row);
+
+/* The ring families of a compound, whose bonds are lent as records. */
+rings_reply rings_families_of(size_t n, const rings_bond *bonds, size_t bond_count, uint8_t *family_rows, size_t family_bytes,
+                              uint8_t *class_rows, size_t class_bytes);
+
+/* The same in all, and the size of the family of one row, counted from 0; past the last row the size is 0. */
+rings_reply rings_family_size_of(size_t n, const rings_bond *bonds, size_t bond_count, uint8_t *family_rows,
+                                 size_t family_bytes, uint8_t *class_rows, size_t class_bytes, size_t row);
 
 #ifdef __cplusplus
 }

@@ -5,26 +5,31 @@
 //! every byte around them must be as the listing says. The last line is `compared=CALLS different=DIFFERENCES`; the exit status
 //! is 0 only if nothing differs.
 
-mod archive;
 mod by_rings;
 mod compound;
 mod crash;
 mod inputs;
 mod literal;
 mod plain;
+// The calls that return a `Result` serve other programs.
+#[allow(dead_code)]
+#[path = "../hatch/rings.rs"]
+mod rings;
 mod span;
 
-use archive::{Answer, Bond};
 use compound::{Listing, CLASSES, CLASS_ROW, FAMILIES, FAMILY_ROW};
 use inputs::{Input, Random};
+use rings::reply::{self, Reply};
+use rings::{Answer, Bond};
 use std::sync::atomic::{AtomicUsize, Ordering};
 use std::sync::Mutex;
+use std::time::{Duration, Instant};
 
 // ---- what a call must answer
 
 /// What a call must answer, and whether it writes rows.
-fn expected(judged: &Result<Listing, (u64, u64)>, family_len: usize, class_len: usize, row: Option<usize>) -> (Answer, bool) {
-    let refused = |refusal, at| (Answer { refusal, at, ..Answer::default() }, false);
+fn expected(judged: &Result<Listing, (u64, u64)>, family_len: usize, class_len: usize, row: Option<usize>) -> (Reply, bool) {
+    let refused = |refusal, at| (Reply { refusal, at, ..Reply::default() }, false);
     let l = match judged {
         Err((refusal, at)) => return refused(*refusal, *at),
         Ok(l) => l,
@@ -39,7 +44,7 @@ fn expected(judged: &Result<Listing, (u64, u64)>, family_len: usize, class_len: 
         return refused(9, 0);
     }
     let size = row.and_then(|row| l.sizes.get(row)).copied().unwrap_or(0) as u64;
-    let answer = Answer {
+    let reply = Reply {
         refusal: 0,
         at: 0,
         cyclomatic: l.cyclomatic,
@@ -49,7 +54,17 @@ fn expected(judged: &Result<Listing, (u64, u64)>, family_len: usize, class_len: 
         rings: l.rings as u64,
         size,
     };
-    (answer, true)
+    (reply, true)
+}
+
+/// The reply as it must be taken apart: the full answer, or the refusal's number and what it names.
+fn taken_apart(reply: Reply) -> Result<Answer, (u64, u64)> {
+    let Reply { refusal, at, cyclomatic, families, classes, total, rings, .. } = reply;
+    if refusal == 0 {
+        Ok(Answer { cyclomatic, families, classes, total, rings })
+    } else {
+        Err((refusal, at))
+    }
 }
 
 /// A lent buffer with bytes around it that nobody may write, filled with a pattern first.
@@ -92,6 +107,7 @@ enum Form {
     Families,
     FamilySize(usize),
     FamiliesOf,
+    FamilySizeOf(usize),
 }
 
 /// One call with its buffers watched; the text says what is wrong.
@@ -105,15 +121,20 @@ fn one_call(
 ) -> Result<(), String> {
     let mut families = Lent::new(lens.0, salt);
     let mut classes = Lent::new(lens.1, salt + 1);
-    let (answer, row) = match form {
-        Form::Families => (archive::families(input.n, &input.bytes, families.lent(), classes.lent()), None),
-        Form::FamilySize(row) => (archive::family_size(input.n, &input.bytes, families.lent(), classes.lent(), row), Some(row)),
-        Form::FamiliesOf => (archive::families_of(input.n, records, families.lent(), classes.lent()), None),
+    let (f, c) = (families.lent(), classes.lent());
+    let (reply, row) = match form {
+        Form::Families => (reply::families(input.n, &input.bytes, f, c), None),
+        Form::FamilySize(row) => (reply::family_size(input.n, &input.bytes, f, c, row), Some(row)),
+        Form::FamiliesOf => (reply::families_of(input.n, records, f, c), None),
+        Form::FamilySizeOf(row) => (reply::family_size_of(input.n, records, f, c, row), Some(row)),
     };
     let (wanted, written) = expected(judged, lens.0, lens.1, row);
     let call = || format!("call {:?} with {} family bytes and {} class bytes", form, lens.0, lens.1);
-    if answer != wanted {
-        return Err(format!("{}:\n  answered  {:?}\n  should be {:?}", call(), answer, wanted));
+    if reply != wanted {
+        return Err(format!("{}:\n  answered  {:?}\n  should be {:?}", call(), reply, wanted));
+    }
+    if reply.answer().map_err(|refusal| (refusal.number(), refusal.at())) != taken_apart(wanted) {
+        return Err(format!("{}:\n  {:?} is taken apart as {:?}", call(), reply, reply.answer()));
     }
     let (family_rows, class_rows): (&[u8], &[u8]) = match judged {
         Ok(l) if written => (&l.family_rows, &l.class_rows),
@@ -224,15 +245,17 @@ fn run(case: &Case, tally: &mut Tally) -> Result<(), String> {
         one_call(input, &records, &judged, form, lens, salt)
     };
     for (i, pair) in lens.iter().enumerate() {
+        let row = i % (need_f + 1);
         call(Form::Families, *pair)?;
-        call(Form::FamilySize(i % (need_f + 1)), *pair)?;
-        if even && archive::RECORDS {
-            call(Form::FamiliesOf, *pair)?;
+        call(Form::FamilySize(row), *pair)?;
+        // Records have no odd byte. Their two calls take turns.
+        if even {
+            call(if i % 2 == 0 { Form::FamiliesOf } else { Form::FamilySizeOf(row) }, *pair)?;
         }
     }
     if judged.is_ok() {
-        for row in rows.iter().chain(&past) {
-            call(Form::FamilySize(*row), (f, c))?;
+        for (i, row) in rows.iter().chain(&past).enumerate() {
+            call(if i % 3 == 0 { Form::FamilySizeOf(*row) } else { Form::FamilySize(*row) }, (f, c))?;
         }
     }
     Ok(())
@@ -286,8 +309,9 @@ fn limits(random: &mut Random) -> Vec<Input> {
     }
     for bytes in [191, 192, 193, 194, 195, 255, 256, 257, 512, 513, 65_536, 131_073] {
         // Too long or odd, and full of faults that come later in the table.
-        all.push(Input { name: format!("{} bytes", bytes), n: 64, bytes: vec![7; bytes] });
-        all.push(Input { name: format!("{} bytes", bytes), n: 65, bytes: vec![7; bytes] });
+        for n in [0, 1, 64, 65, usize::MAX] {
+            all.push(Input { name: format!("{} bytes, n = {}", bytes, n), n, bytes: vec![7; bytes] });
+        }
     }
     for n in 60..=66 {
         for m in 94..=98 {
@@ -376,12 +400,8 @@ fn cases() -> (Vec<&'static str>, Vec<Case>) {
 
     let bench: Vec<Input> = bench_set().into_iter().map(|(input, _)| input).collect();
     add("bench set, all buffer sizes", Sizes::All, bench.clone());
-    let mut small: Vec<Input> = (1..=4).flat_map(all_graphs).collect();
-    add("all graphs to 4 atoms, all buffer sizes", Sizes::All, small.clone());
-    small = all_graphs(5);
-    add("all graphs on 5 atoms", Sizes::Around, small.iter().map(|g| g.renumbered(&mut random)).collect());
-    small = all_graphs(6);
-    add("all graphs on 6 atoms", Sizes::Around, small);
+    add("all graphs to 4 atoms, all buffer sizes", Sizes::All, (1..=4).flat_map(all_graphs).collect());
+    add("all graphs on 5 atoms", Sizes::Around, all_graphs(5).iter().map(|g| g.renumbered(&mut random)).collect());
 
     let regular = inputs::regular();
     let mut list = regular.clone();
@@ -444,6 +464,8 @@ fn cases() -> (Vec<&'static str>, Vec<Case>) {
         list.push(Input { name: "random bytes".into(), n, bytes });
     }
     add("damaged", Sizes::Around, list);
+    // The most inputs by far come last, so that a run that is cut short has seen all other groups.
+    add("all graphs on 6 atoms", Sizes::Around, all_graphs(6));
     (groups, cases)
 }
 
@@ -479,6 +501,9 @@ fn main() {
     if let Some(case) = only.and_then(|i| cases.get(i)) {
         println!("{}, input '{}': n = {}, bond bytes {:?}", groups[case.group], case.input.name, case.input.n, case.input.bytes);
     }
+    // COMPARE_SECONDS bounds the run: no input is taken up after so long.
+    let seconds = std::env::var("COMPARE_SECONDS").ok().and_then(|word| word.parse().ok());
+    let deadline = seconds.map(|seconds| Instant::now() + Duration::from_secs(seconds));
     crash::watch();
     let next = AtomicUsize::new(only.unwrap_or(0));
     let end = only.map_or(cases.len(), |i| i + 1);
@@ -491,7 +516,7 @@ fn main() {
                 let mut own = vec![Tally::default(); groups.len()];
                 loop {
                     let i = next.fetch_add(1, Ordering::Relaxed);
-                    if i >= end {
+                    if i >= end || deadline.is_some_and(|deadline| Instant::now() > deadline) {
                         break;
                     }
                     let case = &cases[i];
@@ -526,6 +551,10 @@ fn main() {
         println!("\nthe first difference, in '{}', input '{}':", groups[*group], input.name);
         println!("n = {}, bond bytes {:?}", input.n, input.bytes);
         println!("{}\n", e);
+    }
+    let taken: usize = tallies.iter().map(|t| t.inputs).sum();
+    if only.is_none() && taken < cases.len() {
+        println!("cut short: {} of {} inputs taken", taken, cases.len());
     }
     println!("compared={} different={}", tallies.iter().map(|t| t.calls).sum::<usize>(), wrong.len());
     std::process::exit(!wrong.is_empty() as i32);

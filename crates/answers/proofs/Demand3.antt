@@ -25,6 +25,7 @@ use Rattle.cycles.proofs.Swaps.{interchangeable-sym, interchangeable-same-lengt
 use Rattle.cycles.proofs.Ranks as Ranks
 use Rattle.cycles.proofs.Ranks.{at-element, at-exists, element-at, at-below, same-class-iff, class-row-exists, class-row-of}
 use Rattle.cycles.proofs.Ranks.{relative-rank-in-every-minimum, holding-iff}
+use Rattle.cycles.proofs.FirstMarked.{first-family-marked}
 use Rattle.answers.specs.Answered.{full, Answered}
 use Rattle.answers.specs.Bytes.{familyAt, markAt, classAt, longAt, rankAt, familiesAt, essentialAt, sumTo, rowsOf, MemberAt, ClassCount, OfClass, MarkedRows}
 use Rattle.answers.proofs.Places.{longAt-row, rankAt-row, familiesAt-row, essentialAt-row, sumTo-first}
@@ -254,3 +255,11 @@ module _ {n : ℕ} {bonds rows classRows : List ℕ} {i cyclomatic families clas
   -- "Basis mark 0 or 1"
   pub mark-byte : (k : ℕ) → k < families → (markAt left k ≡ 0) ⊎ (markAt left k ≡ 1)
   mark-byte k h = marked-rows-mark c left k k h (omega arith) basis-rows
+
+  -- "Classes are numbered from 0 by their first family": the first row of a class is marked.
+  pub first-of-class-marked : {g k : ℕ} → k < families → classAt left k ≡ g → ((j : ℕ) → j < k → classAt left j ≡ g → ⊥) → markAt left k ≡ 1
+  first-of-class-marked {g} {k} h e first =
+      let (row, t) = row-at told k h in
+      let no-earlier : (j : ℕ) (u : Row) → j < k → At (told .R .rows) j u → u .class ≡ row .class → ⊥ =
+      λ j u l a d. first j l (row-there told a .class ∙ d ∙ sym (t .class) ∙ e) in
+      t .mark ∙ first-family-marked c (sound told) (λ a. a) (λ a b h l e. e) (told .right) (t .at) no-earlier

@@ -1,21 +1,47 @@
 -- Laws of a number of two words, for the functions that work on each word.
 use mathlib.Core.Path.{_≡_, refl, sym, ap, ap₂, _∙_}
+use mathlib.Core.List.{List, [], _∷_}
 use Prim.Native.Nat.{ℕ, zero, suc, _+_, _-_, _*_, _/_, _%_, _^_, _≤_, _<_}
 use native.Mathlib.Nat.{zero-add, mul-one, suc-add, suc-mul, zero-mul, add-mul, mul-assoc, mul-add-div-right, div-eq-of-lt, lt-of-lt-of-le}
 use native.Mathlib.Numerals.{add-one}
 use native.Mathlib.Omega.{arith}
-use borrow.Author.Tests.{eq-eqb, ne-eqb}
+use borrow.Author.Tests.{ne-eqb}
 use lib.Arith.{lt-one}
-use lib.Bits.{block-half, block-odd, shifted-half, shifted-even}
+use lib.Bits.{bitOr, or-zero-r, or-add-and, and-le-l, block-half, block-odd, shifted-half, shifted-even}
 use lib.Count.{trailingZeros, under}
-use lib.Dec.{eqb, eqb·suc-zero}
+use lib.Dec.{eqb}
+use lib.ListN.{getD}
 use lib.Pow.{pow-pos, pow-add, pow-mono, shr-lt}
-use Rattle.bondset.proofs.Laws.{shr-word-hi}
+use Rattle.bondset.specs.Sets.{bit}
+use Rattle.bondset.proofs.Laws.{zero-bit, bit-beyond, shr-word-hi, bit-word-lo, bit-word-hi, words-lt}
 
-pub word-zero : (w hi lo : ℕ) → lo ≡ 0 → eqb hi 0 ≡ eqb (hi * 2 ^ w + lo) 0
-word-zero w zero lo e = sym (eq-eqb (0 * 2 ^ w + lo) 0 (omega (arith, zero-mul (2 ^ w))))
-word-zero w (suc hi) lo e =
-    eqb·suc-zero hi ∙ sym (ne-eqb (suc hi * 2 ^ w + lo) 0 (λ z. omega (arith, suc-mul hi (2 ^ w), pow-pos w)))
+pub words-zero : (w hi lo : ℕ) → eqb (bitOr lo hi) 0 ≡ eqb (hi * 2 ^ w + lo) 0
+words-zero w zero lo = ap (λ (x : ℕ). eqb x 0) (or-zero-r lo ∙ same)
+  where
+    same : lo ≡ 0 * 2 ^ w + lo
+    same = omega (arith, zero-mul (2 ^ w))
+words-zero w (suc hi) lo =
+    ne-eqb (bitOr lo (suc hi)) 0 (λ z. omega (arith, or-add-and lo (suc hi), and-le-l lo (suc hi)))
+    ∙ sym (ne-eqb (suc hi * 2 ^ w + lo) 0 (λ z. omega (arith, suc-mul hi (2 ^ w), pow-pos w)))
+
+-- ---- the words of a set, and as many empty ones
+
+-- The set of two words, in the first half of a list in which any byte finds its word.
+abbrev pub spread : ℕ → ℕ → List ℕ
+spread lo hi = lo ∷ hi ∷ 0 ∷ 0 ∷ []
+
+pub bit-spread : (lo hi k : ℕ) → lo < 2 ^ 64 → hi < 2 ^ 64 → k < 256 → bit (getD (spread lo hi) (k / 64) 0) (k % 64) ≡ bit (hi * 2 ^ 64 + lo) k
+bit-spread lo hi k l h small = go (k / 64) refl
+  where
+    beyond : 128 ≤ k → bit 0 (k % 64) ≡ bit (hi * 2 ^ 64 + lo) k
+    beyond far = zero-bit (k % 64) ∙ sym (bit-beyond 128 (hi * 2 ^ 64 + lo) k (words-lt 64 hi lo h l) far)
+
+    go : (q : ℕ) → k / 64 ≡ q → bit (getD (spread lo hi) q 0) (k % 64) ≡ bit (hi * 2 ^ 64 + lo) k
+    go zero e = ap (bit lo) (omega arith) ∙ sym (bit-word-lo 64 hi lo l k (omega arith))
+    go (suc zero) e = ap (bit hi) (omega arith) ∙ sym (bit-word-hi 64 hi lo l k (omega arith))
+    go (suc (suc zero)) e = beyond (omega arith)
+    go (suc (suc (suc zero))) e = beyond (omega arith)
+    go (suc (suc (suc (suc q)))) e = absurd (omega arith)
 
 -- ---- the bonds from bond k on
 

@@ -86,10 +86,7 @@ pub fn member(a: BondSet, k: usize) -> bool
 pub fn is_empty(a: BondSet) -> bool
     ensures { λ r. ⌜ r ≡ eqb (value a) 0 ⌝ }
 {
-    if a.lo != 0 {
-        return false;
-    }
-    a.hi == 0
+    a.lo | a.hi == 0
 }
 
 /// The number of bonds in the set.

@@ -52,9 +52,14 @@ pub fn reduce(
 {
     let mut rest = v.rest;
     let mut used = v.used;
+    // The rest once more, where any byte finds its word: a pivot is looked up without asking which of two words it is in.
+    let mut words = [rest.lo, rest.hi, 0u64, 0u64];
     for i in from..to {
-        if crate::member(rest, pivots[i] as usize) {
+        let k = pivots[i] as usize;
+        if (words[k / 64] >> (k % 64)) & 1 == 1 {
             rest = crate::sum(rest, row_at(rows, i));
+            words[0] = rest.lo;
+            words[1] = rest.hi;
             used = crate::sum(used, row_at(tags, i));
         }
     }

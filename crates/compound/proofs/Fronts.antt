@@ -1,29 +1,30 @@
--- A search through a queue takes the steps of the model: the order of the atoms in the queue does not matter.
+-- A search through a queue takes the steps of the model, though it never looks for the atoms at the last distance: what is bonded to an atom
+-- under the start, and not seen, is one step further.
 use mathlib.Core.Path.{_≡_, refl, sym, ap, ap₂, _∙_, subst}
-use mathlib.Core.Logic.{_⊎_, inl, inr, ⊎-elim, _↔_}
+use mathlib.Core.Logic.{inl, inr, _↔_}
 use mathlib.Core.List.{List, [], _∷_}
-use Prim.Native.Nat.{ℕ, suc, _+_, _-_, _^_, _<_}
+use Prim.Native.Nat.{ℕ, zero, suc, _+_, _-_, _^_, _≤_, _<_}
 use native.Mathlib.Nat.{mod-self}
 use native.Mathlib.Omega.{arith}
 use native.Mathlib.Decide.{ℕ-discrete}
-use lib.Bits.{bitAnd, bitOr, or-lt, and-mask, and-zero-l, and-zero-r}
+use lib.Bits.{bitAnd, bitOr, and-le-l, and-mask, and-zero-l, and-zero-r, or-zero-l}
+use lib.Count.{trailingZeros}
 use lib.ListN.{length, set, replicate}
 use lib.Pow.{pow-pos, pow-lt}
 use Rattle.spans.specs.Elements.{_∈_}
-use Rattle.bondset.specs.Sets.{bit, members, lengthTo}
-use Rattle.bondset.proofs.Laws.{bit-lt, zero-bit, ext}
-use Rattle.bondset.proofs.Members.{lengthTo-members, members-step, members-zero, mem-of-bit, bit-of-mem}
-use Rattle.cycles.proofs.PathsDecide.{not-in-none}
+use Rattle.bondset.specs.Sets.{bit, members}
+use Rattle.bondset.proofs.Laws.{bit-lt, zero-bit, ext, trailing}
+use Rattle.bondset.proofs.Members.{lengthTo-members, members-step, members-zero, mem-of-bit, bit-of-mem, lt-of-mem}
 use Rattle.model.specs.Fold.{through}
 use Rattle.model.specs.Net.{Net, nbrs, near}
 use Rattle.model.specs.Layer.{Wave, spread, wave, layer}
-use Rattle.model.proofs.NetBits.{or-has, pow-has, lt-of-has, without-has}
+use Rattle.model.proofs.NetBits.{and-has, pow-has, without-has}
 use Rattle.model.proofs.NetNear.{gather, gather-has, gather-takes, gather-small, newOf}
-use Rattle.compound.specs.declared.queue.Found.{Found}
 use Rattle.compound.specs.declared.search.Search.{Search}
-use Rattle.compound.specs.Queue.{queued, Levelled}
+use Rattle.compound.specs.Queue.{Appended, beside}
 use Rattle.compound.specs.Search.{Ready, Layering, Goes}
 use Rattle.compound.proofs.Waves.{or-without, near-none}
+use Rattle.compound.proofs.Queues.{length-seen, queued-new}
 
 bit-same : (s t k : ℕ) → (bit s k ≡ 1 → bit t k ≡ 1) → (bit t k ≡ 1 → bit s k ≡ 1) → bit s k ≡ bit t k
 bit-same s t k to from = go (ℕ-discrete (bit s k) 1) (ℕ-discrete (bit t k) 1)
@@ -33,73 +34,77 @@ bit-same s t k to from = go (ℕ-discrete (bit s k) 1) (ℕ-discrete (bit t k) 1
     go (no ne) (yes f) = absurd (ne (from f))
     go (no ne) (no nf) = omega (arith, bit-lt s k, bit-lt t k)
 
--- ---- one distance further
+-- ---- the atoms under the start, one step further
 
--- A search that has looked at its front: s and the queue q hold what the wave w says.
-module _ (G : Net) (small : (a : ℕ) → nbrs G a < 2 ^ 64) (q : List ℕ) (s : Search) (w : Wave) (seen-small : s .seen < 2 ^ 64) (ready : Ready q s)
-    (level : (t : ℕ) → (t ∈ queued q (s .from) (s .end)) ↔ (bit (w .front) t ≡ 1)) where
-  abbrev reach : ℕ
-  reach = near G (w .front)
+-- What is left of a set without the atoms of another.
+abbrev without : ℕ → ℕ → ℕ
+without s t = s - bitAnd s t
 
-  abbrev new : ℕ
-  new = newOf G (s .seen) (w .front)
+-- Larger sets have more neighbours.
+near-more : (G : Net) (s t : ℕ) → ((a : ℕ) → bit s a ≡ 1 → bit t a ≡ 1) → (k : ℕ) → bit (near G s) k ≡ 1 → bit (near G t) k ≡ 1
+unfolding near
+near-more G s t within k e = elim (gather-has G (members 64 s) 0 k e) [
+  | inl none ↦ absurd (omega (arith, zero-bit k))
+  | inr p ↦ gather-takes G 0 k (p .0) (mem-of-bit 64 t (p .0) (lt-of-mem 64 s (p .0) (p .1)) (within (p .0) (bit-of-mem 64 s (p .0) (p .1)))) (p .2)
+]
 
-  reach-small : reach < 2 ^ 64
+module _ (G : Net) (small : (a : ℕ) → nbrs G a < 2 ^ 64) (pre : ℕ) where
+  near-word : (s : ℕ) → near G s < 2 ^ 64
   unfolding near
-  reach-small = gather-small G 64 small (members 64 (w .front)) 0 (pow-pos 64)
+  near-word s = gather-small G 64 small (members 64 s) 0 (pow-pos 64)
 
-  -- What the front reaches is what the atoms of the queue have as neighbours.
-  reach-has : (t : ℕ) → (bit reach t ≡ 1) ↔ ((a : ℕ) × (a ∈ queued q (s .from) (s .end)) × (bit (nbrs G a) t ≡ 1))
-  unfolding near
-  reach-has t = (λ e. to (gather-has G (members 64 (w .front)) 0 t e), λ p. from (p .0) (p .1) (p .2))
-    where
-      to : (bit 0 t ≡ 1) ⊎ ((a : ℕ) × (a ∈ members 64 (w .front)) × (bit (nbrs G a) t ≡ 1))
-          → (a : ℕ) × (a ∈ queued q (s .from) (s .end)) × (bit (nbrs G a) t ≡ 1)
-      to (inl e) = absurd (omega (arith, zero-bit t))
-      to (inr p) = (p .0, level (p .0) .1 (bit-of-mem 64 (w .front) (p .0) (p .1)), p .2)
+  module _ (w : Wave) where
+    abbrev beneath : ℕ
+    beneath = near G (w .under)
 
-      from : (a : ℕ) → a ∈ queued q (s .from) (s .end) → bit (nbrs G a) t ≡ 1 → bit (through (gather G) (members 64 (w .front)) 0) t ≡ 1
-      from a m e = gather-takes G 0 t a (mem-of-bit 64 (w .front) a (ready .named a m) (level a .0 m)) e
+    abbrev below : ℕ
+    below = bitAnd beneath pre
 
-  new-small : new < 2 ^ 64
-  new-small = omega (arith, reach-small)
+    abbrev new : ℕ
+    new = newOf G (w .seen) (w .front)
 
-  new-has : (t : ℕ) → (bit new t ≡ 1) ↔ ((bit reach t ≡ 1) × (bit (s .seen) t ≡ 1 → ⊥))
-  new-has t = without-has 64 reach (s .seen) t reach-small
+    below-small : below < 2 ^ 64
+    below-small = omega (arith, and-le-l beneath pre, near-word (w .under))
 
-  module _ (q′ : List ℕ) (found : Found) (found-small : found .seen < 2 ^ 64)
-      (levelled : Levelled G q (s .from) (record { seen = s .seen; end = s .end }) q′ found) where
-    -- What was not seen before is the model's next front.
-    fresh-has : (t : ℕ) → ((bit (found .seen) t ≡ 1) × (bit (s .seen) t ≡ 1 → ⊥)) ↔ (bit new t ≡ 1)
-    fresh-has t = (
-      λ p. new-has t .1 (
-        ⊎-elim (λ (l : bit (s .seen) t ≡ 1). absurd (p .1 l))
-            (λ (r : (a : ℕ) × (a ∈ queued q (s .from) (s .end)) × (bit (nbrs G a) t ≡ 1)). reach-has t .1 r) (levelled .saw t .0 (p .0)),
-        p .1,
-      ),
-      λ e. let both = new-has t .0 e in (levelled .saw t .1 (inr (reach-has t .0 (both .0))), both .1),
-    )
+    below-has : (k : ℕ) → (bit (without below (w .seen)) k ≡ 1) ↔ ((bit below k ≡ 1) × (bit (w .seen) k ≡ 1 → ⊥))
+    below-has k = without-has 64 below (w .seen) k below-small
 
-    front-new : found .seen - bitAnd (found .seen) (s .seen) ≡ new
-    front-new =
-        ext 64 _ new (omega arith) new-small (λ t l. bit-same _ new t (λ e. fresh-has t .0 (without-has 64 (found .seen) (s .seen) t found-small .0 e))
-        (λ e. without-has 64 (found .seen) (s .seen) t found-small .1 (fresh-has t .1 e)))
+    new-has : (k : ℕ) → (bit new k ≡ 1) ↔ ((bit (near G (w .front)) k ≡ 1) × (bit (w .seen) k ≡ 1 → ⊥))
+    new-has k = without-has 64 (near G (w .front)) (w .seen) k (near-word (w .front))
 
-    seen-or : found .seen ≡ bitOr (s .seen) new
-    seen-or =
-        ext 64 (found .seen) (bitOr (s .seen) new) found-small (or-lt 64 (s .seen) new seen-small new-small)
-        (λ t l. bit-same (found .seen) (bitOr (s .seen) new) t (λ e. or-has (s .seen) new t .1 (to t e (ℕ-discrete (bit (s .seen) t) 1)))
-        (λ e. ⊎-elim (λ (o : bit (s .seen) t ≡ 1). levelled .saw t .1 (inl o)) (λ (n : bit new t ≡ 1). fresh-has t .1 n .0) (or-has (s .seen) new t .0 e)))
+    -- The atoms under the start are among those at their distance, so what they reach that is not seen is at the next.
+    under-next : ((a : ℕ) → bit (w .under) a ≡ 1 → bit (w .front) a ≡ 1) → without below (w .seen) ≡ spread G pre w .under
+    unfolding spread
+    under-next within = ext 64 (without below (w .seen)) (bitAnd (bitAnd new beneath) pre) (omega (arith, below-small)) small-all (λ k l. bit-same _ _ k (to k) (from k))
       where
-        to : (t : ℕ) → bit (found .seen) t ≡ 1 → Dec (bit (s .seen) t ≡ 1) → (bit (s .seen) t ≡ 1) ⊎ (bit new t ≡ 1)
-        to t e (yes old) = inl old
-        to t e (no fresh) = inr (fresh-has t .0 (e, fresh))
+        small-all : bitAnd (bitAnd new beneath) pre < 2 ^ 64
+        small-all = omega (arith, and-le-l (bitAnd new beneath) pre, and-le-l new beneath, near-word (w .front))
 
-    seen-add : found .seen ≡ s .seen + new
-    seen-add = seen-or ∙ or-without (s .seen) reach seen-small reach-small
+        to : (k : ℕ) → bit (without below (w .seen)) k ≡ 1 → bit (bitAnd (bitAnd new beneath) pre) k ≡ 1
+        to k e =
+            let left = below-has k .0 e in
+            let both = and-has beneath pre k .0 (left .0) in
+            and-has (bitAnd new beneath) pre k .1
+            (and-has new beneath k .1 (new-has k .1 (near-more G (w .under) (w .front) within k (both .0), left .1), both .0), both .1)
 
-    new-level : (t : ℕ) → (t ∈ queued q′ (s .end) (found .end)) ↔ (bit new t ≡ 1)
-    new-level t = (λ m. fresh-has t .0 (levelled .new t .0 m), λ e. levelled .new t .1 (fresh-has t .1 e))
+        from : (k : ℕ) → bit (bitAnd (bitAnd new beneath) pre) k ≡ 1 → bit (without below (w .seen)) k ≡ 1
+        from k e =
+            let outer = and-has (bitAnd new beneath) pre k .0 e in
+            let inner = and-has new beneath k .0 (outer .0) in
+            below-has k .1 (and-has beneath pre k .1 (inner .1, outer .1), new-has k .0 (inner .0) .1)
+
+  under-front : (r d a : ℕ) → bit ((wave G pre r d) .under) a ≡ 1 → bit ((wave G pre r d) .front) a ≡ 1
+  unfolding wave spread
+  under-front r zero a e = e
+  under-front r (suc d) a e =
+      let w = wave G pre r d in
+      let new = newOf G (w .seen) (w .front) in
+      and-has new (near G (w .under)) a .0 (and-has (bitAnd new (near G (w .under))) pre a .0 e .0) .0
+
+  -- The layer after layer d, from the atoms seen up to distance d.
+  layer-next : (r d : ℕ) → without (bitAnd (near G (layer G pre r d)) pre) ((wave G pre r d) .seen) ≡ layer G pre r (suc d)
+  unfolding layer wave
+  layer-next r d = under-next (wave G pre r d) (under-front r d)
 
 -- ---- from distance to distance
 
@@ -107,63 +112,81 @@ module _ (G : Net) (small : (a : ℕ) → nbrs G a < 2 ^ 64) (q : List ℕ) (s :
 pub goes-none : (G : Net) (pre : ℕ) (q : List ℕ) (s : Search) → s .under ≡ 0 → Goes G pre q s q s
 unfolding layer wave spread
 goes-none G pre q s e r d layering =
-    let w = wave G pre r d in
-    let beside : near G (w .under) ≡ 0 = ap (near G) (sym (layering .under) ∙ e) ∙ near-none G in
+    let w = wave G pre r (suc d) in
+    let none : near G (w .under) ≡ 0 = ap (near G) (sym (layering .under) ∙ e) ∙ near-none G in
     let front = newOf G (w .seen) (w .front) in
     record {
-      under = e ∙ sym (ap (λ (x : ℕ). bitAnd (bitAnd front x) pre) beside ∙ ap (λ (x : ℕ). bitAnd x pre) (and-zero-r front) ∙ and-zero-l pre);
+      under = e ∙ sym (ap (λ (x : ℕ). bitAnd (bitAnd front x) pre) none ∙ ap (λ (x : ℕ). bitAnd x pre) (and-zero-r front) ∙ and-zero-l pre);
       seen = λ pos. absurd (omega arith);
       ready = λ pos. absurd (omega arith);
       front = λ pos. absurd (omega arith);
     }
 
--- One step: `beside` are the neighbours of the atoms under the start.
-pub goes-further : (G : Net) → ((a : ℕ) → nbrs G a < 2 ^ 64) → (pre : ℕ) (q : List ℕ) (s : Search) → 0 < s .under → s .seen < 2 ^ 64 → Ready q s
-    → (q′ : List ℕ) (found : Found) → found .seen < 2 ^ 64 → Levelled G q (s .from) (record { seen = s .seen; end = s .end }) q′ found
-    → (beside : ℕ) → beside ≡ near G (s .under)
-    → Goes G pre q s q′ (record {
-      seen = found .seen;
-      under = bitAnd (bitAnd (found .seen - bitAnd (found .seen) (s .seen)) beside) pre;
-      from = s .end;
-      end = found .end;
-    })
-unfolding layer wave spread
-goes-further G small pre q s pos seen-small ready q′ found found-small levelled beside besides r d layering =
-    let w = wave G pre r d in
-    let saw : s .seen ≡ w .seen = layering .seen pos in
-    let level = layering .front pos in
-    let news : newOf G (s .seen) (w .front) ≡ newOf G (w .seen) (w .front) = ap (λ (x : ℕ). newOf G x (w .front)) saw in
-    let fresh = new-level G small q s w seen-small ready level q′ found found-small levelled in
-    record {
-      under =
-          ap₂ (λ (x y : ℕ). bitAnd (bitAnd x y) pre) (front-new G small q s w seen-small ready level q′ found found-small levelled ∙ news)
-          (besides ∙ ap (near G) (layering .under));
-      seen = λ more. seen-add G small q s w seen-small ready level q′ found found-small levelled ∙ ap₂ (λ (x y : ℕ). x + y) saw news;
-      ready = λ more. record {
-        count = levelled .count;
-        order = levelled .grown;
-        named = λ t m. lt-of-has 64 (newOf G (s .seen) (w .front)) t (new-small G small q s w seen-small ready level) (fresh t .0 m);
-      };
-      front = λ more t. subst (λ (x : ℕ). (t ∈ queued q′ (s .end) (found .end)) ↔ (bit x t ≡ 1)) news (fresh t);
-    }
+-- One step: `reach` are the neighbours of the atoms at the last distance, and `beneath` those of the atoms under the start.
+module _ (G : Net) (small : (a : ℕ) → nbrs G a < 2 ^ 64) (pre : ℕ) (q : List ℕ) (s : Search) (pos : 0 < s .under)
+    (ready : Ready q s) (room : s .end ≤ length q) (reach : ℕ) (reaches : reach ≡ beside G q (s .from) (s .end)) where
+  abbrev found : ℕ
+  found = without reach (s .seen)
 
-length-single : (r : ℕ) → r < 64 → lengthTo 64 (2 ^ r) ≡ 1
-length-single r h =
+  abbrev seen′ : ℕ
+  seen′ = bitOr (s .seen) found
+
+  module _ (r d : ℕ) (layering : Layering G pre r d q s) where
+    found-new : found ≡ newOf G ((wave G pre r d) .seen) ((wave G pre r d) .front)
+    unfolding near beside
+    found-new = ap₂ without (reaches ∙ ap (λ (l : List ℕ). through (gather G) l 0) (layering .front pos)) (layering .seen pos)
+
+    found-front : found ≡ (wave G pre r (suc d)) .front
+    unfolding wave spread
+    found-front = found-new
+
+    seen-next : seen′ ≡ (wave G pre r (suc d)) .seen
+    unfolding wave spread
+    seen-next = or-without (s .seen) reach ∙ ap₂ (λ (x y : ℕ). x + y) (layering .seen pos) found-new
+
+  pub goes-further : (q′ : List ℕ) (end′ : ℕ) → Appended q (s .end) found q′ end′ → (beneath : ℕ) → beneath ≡ near G (s .under)
+      → Goes G pre q s q′ (record { seen = seen′; under = without (bitAnd beneath pre) seen′; from = s .end; end = end′ })
+  goes-further q′ end′ appended beneath beneaths r d layering = record {
+    under =
+        ap₂ (λ (x y : ℕ). without (bitAnd x pre) y) (beneaths ∙ ap (near G) (layering .under)) (seen-next r d layering)
+        ∙ layer-next G small pre r (suc d);
+    seen = λ more. seen-next r d layering;
+    ready = λ more. record {
+      count = appended .count ∙ sym (length-seen (s .seen) reach (s .end) (ready .count));
+      named = λ t m. lt-of-mem 64 found t (subst (λ (l : List ℕ). t ∈ l) (queued-new room appended) m);
+    };
+    front = λ more. queued-new room appended ∙ ap (members 64) (found-front r d layering);
+  }
+
+-- ---- the start
+
+members-single : (r : ℕ) → r < 64 → members 64 (2 ^ r) ≡ r ∷ []
+members-single r h =
     let none : bitAnd (2 ^ r) (2 ^ r - 1) ≡ 0 = and-mask (2 ^ r) r ∙ mod-self (2 ^ r) in
-    lengthTo-members 64 (2 ^ r) ∙ ap length (members-step 64 (2 ^ r) (pow-pos r) (pow-lt h)) ∙ ap (λ (s : ℕ). suc (length (members 64 s))) none
-    ∙ ap (λ (l : List ℕ). suc (length l)) (members-zero 64)
+    let low : r ≡ trailingZeros 64 (2 ^ r) = pow-has r (trailingZeros 64 (2 ^ r)) .0 (trailing 64 (2 ^ r) (pow-pos r) (pow-lt h) .here) in
+    members-step 64 (2 ^ r) (pow-pos r) (pow-lt h) ∙ ap₂ (λ (t s : ℕ). t ∷ members 64 s) (sym low) none ∙ ap (λ (l : List ℕ). r ∷ l) (members-zero 64)
 
-in-one : {t r : ℕ} → t ∈ (r ∷ []) → r ≡ t
-in-one _∈_.first = refl
-in-one (_∈_.later m) = absurd (not-in-none m)
+near-single : (G : Net) (r : ℕ) → r < 64 → near G (2 ^ r) ≡ nbrs G r
+unfolding near through
+near-single G r h = ap (λ (l : List ℕ). through (gather G) l 0) (members-single r h) ∙ or-zero-l (nbrs G r)
+
+-- Layer 1, from the neighbours of r.
+pub first-layer : (G : Net) → ((a : ℕ) → nbrs G a < 2 ^ 64) → (pre r : ℕ) → r < 64
+    → bitAnd (nbrs G r) pre - bitAnd (bitAnd (nbrs G r) pre) (2 ^ r) ≡ layer G pre r 1
+unfolding layer wave
+first-layer G small pre r h =
+    ap (λ (x : ℕ). without (bitAnd x pre) (2 ^ r)) (sym (near-single G r h)) ∙ layer-next G small pre r 0
 
 -- The search from r before its first step.
-pub layering-start : (G : Net) (pre r : ℕ) → r < 64
-    → Layering G pre r 0 (set (replicate 64 0) 0 r) (record { seen = 2 ^ r; under = 2 ^ r; from = 0; end = 1 })
-unfolding layer wave
-layering-start G pre r h = record {
-  under = refl;
+pub layering-start : (G : Net) → ((a : ℕ) → nbrs G a < 2 ^ 64) → (pre r : ℕ) → r < 64
+    → Layering G pre r 0 (set (replicate 64 0) 0 r) (record { seen = 2 ^ r; under = bitAnd (nbrs G r) pre - bitAnd (bitAnd (nbrs G r) pre) (2 ^ r); from = 0; end = 1 })
+unfolding wave
+layering-start G small pre r h = record {
+  under = first-layer G small pre r h;
   seen = λ pos. refl;
-  ready = λ pos. record { count = sym (length-single r h); order = omega arith; named = λ t m. omega (arith, in-one m) };
-  front = λ pos t. (λ m. pow-has r t .1 (in-one m), λ e. subst (λ (x : ℕ). x ∈ (r ∷ [])) (pow-has r t .0 e) _∈_.first);
+  ready = λ pos. record {
+    count = sym (lengthTo-members 64 (2 ^ r) ∙ ap length (members-single r h));
+    named = λ t m. lt-of-mem 64 (2 ^ r) t (subst (λ (l : List ℕ). t ∈ l) (sym (members-single r h)) m);
+  };
+  front = λ pos. sym (members-single r h);
 }

@@ -1,27 +1,22 @@
--- A queue holds the atoms seen, each once: how many there are, and which come to it when an atom is looked at.
-use mathlib.Core.Path.{_≡_, refl, sym, ap, ap₂, _∙_, subst}
-use mathlib.Core.Logic.{_⊎_, inl, inr, ⊎-elim, _↔_}
+-- A queue of atoms: how many it holds, and what is bonded to those of a part of it.
+use mathlib.Core.Path.{_≡_, refl, sym, ap, ap₂, _∙_}
 use mathlib.Core.List.{List, [], _∷_, _++_, append-assoc, append-nil}
 use Prim.Native.Nat.{ℕ, zero, suc, _+_, _-_, _^_, _≤_, _<_}
 use native.Mathlib.Numerals.{add-one}
 use native.Mathlib.Omega.{arith}
-use lib.Bits.{bitAnd, bitOr, bitXor, or-disjoint, xor-disjoint, or-add-and, and-comm, and-le-l}
+use lib.Bits.{bitAnd, bitOr, bitXor, or-disjoint, xor-disjoint, and-le-l}
 use lib.Count.{trailingZeros}
 use lib.ListN.{length, getD, set, take, drop, length-take, drop-of-length-le}
-use lib.Seq.{take-suc-set, take-take, take-append-le, drop-append-le, length-take-le, drop-cons, getD-take}
+use lib.Seq.{take-suc-set, drop-append-le, length-take-le, drop-cons, getD-take}
 use Rattle.spans.specs.Elements.{_∈_}
-use Rattle.bondset.specs.Sets.{bit, members, lengthTo}
+use Rattle.bondset.specs.Sets.{members, lengthTo}
 use Rattle.bondset.proofs.Laws.{bit-lt, zero-bit, length-sum, trailing}
-use Rattle.bondset.proofs.Members.{lengthTo-members, members-step, members-zero, mem-of-bit, bit-of-mem}
-use Rattle.cycles.proofs.PathsDecide.{not-in-none}
-use Rattle.cycles.proofs.MembersLists.{in-left, in-right, in-append}
+use Rattle.bondset.proofs.Members.{lengthTo-members, members-step, members-zero}
 use Rattle.model.specs.Fold.{through}
 use Rattle.model.specs.Net.{Net, nbrs}
-use Rattle.model.proofs.NetBits.{or-has, without-has, lt-of-has}
-use Rattle.model.proofs.NetNear.{gather, gather-has, gather-keeps, gather-takes}
-use Rattle.compound.specs.declared.queue.Found.{Found}
-use Rattle.compound.specs.Queue.{queued, Named, Appended, newAt, Visited, Levelled}
-use Rattle.compound.proofs.Waves.{and-without, or-without}
+use Rattle.model.proofs.NetNear.{gather}
+use Rattle.compound.specs.Queue.{queued, Named, Appended, beside}
+use Rattle.compound.proofs.Waves.{and-without}
 
 -- ---- how many atoms a set has
 
@@ -30,7 +25,7 @@ unfolding lengthTo
 length-none zero = refl
 length-none (suc n) = omega (arith, zero-bit n, length-none n)
 
-length-le : (n s : ℕ) → lengthTo n s ≤ n
+pub length-le : (n s : ℕ) → lengthTo n s ≤ n
 unfolding lengthTo
 length-le zero s = omega arith
 length-le (suc n) s = omega (arith, bit-lt s n, length-le n s)
@@ -88,40 +83,29 @@ module _ (q₀ : List ℕ) (end₀ s : ℕ) where
         sym (append-nil (take at q)) ∙ ap (λ (l : List ℕ). take at q ++ l) (sym (ap (members 64) e ∙ members-zero 64)) ∙ appending .atoms;
   }
 
--- ---- an atom is looked at
+-- ---- room for what is new
 
-module _ (G : Net) (t : ℕ) (f : Found) (small : f .seen < 2 ^ 64) (near-small : nbrs G t < 2 ^ 64) (full : f .end ≡ lengthTo 64 (f .seen)) where
-  length-seen : lengthTo 64 (bitOr (f .seen) (newAt G t (f .seen))) ≡ f .end + lengthTo 64 (newAt G t (f .seen))
+module _ (seen x end : ℕ) (full : end ≡ lengthTo 64 seen) where
+  -- What x adds to the atoms seen is counted beside them.
+  pub length-seen : lengthTo 64 (bitOr seen (x - bitAnd x seen)) ≡ end + lengthTo 64 (x - bitAnd x seen)
   length-seen =
-      length-disjoint 64 (f .seen) (newAt G t (f .seen)) (and-without (f .seen) (nbrs G t) small near-small)
-      ∙ ap (λ (k : ℕ). k + lengthTo 64 (newAt G t (f .seen))) (sym full)
+      length-disjoint 64 seen (x - bitAnd x seen) (and-without seen x) ∙ ap (λ (k : ℕ). k + lengthTo 64 (x - bitAnd x seen)) (sym full)
 
-  -- There is room for what is new.
-  pub visit-room : f .end + lengthTo 64 (newAt G t (f .seen)) ≤ 64
-  visit-room = omega (arith, length-seen, length-le 64 (bitOr (f .seen) (newAt G t (f .seen))))
+  -- So there is room for it.
+  pub new-room : end + lengthTo 64 (x - bitAnd x seen) ≤ 64
+  new-room = omega (arith, length-seen, length-le 64 (bitOr seen (x - bitAnd x seen)))
 
-  -- What `append` did completes the visit.
-  pub visited : (q q′ : List ℕ) (end′ : ℕ) → Appended q (f .end) (newAt G t (f .seen)) q′ end′
-      → Visited G t q f q′ (record { seen = bitOr (f .seen) (newAt G t (f .seen)); end = end′ })
-  visited q q′ end′ appended = record {
-    saw = refl;
-    count = omega (arith, length-seen, appended .count);
-    grown = omega (arith, appended .count);
-    atoms = appended .atoms;
-  }
+-- ---- a part of the queue
 
-  -- Nothing is lost if only the new neighbours are added.
-  seen-gather : bitOr (f .seen) (newAt G t (f .seen)) ≡ gather G t (f .seen)
-  seen-gather =
-      omega (
-        arith,
-        or-without (f .seen) (nbrs G t) small near-small,
-        or-add-and (f .seen) (nbrs G t),
-        and-comm (f .seen) (nbrs G t),
-        and-le-l (nbrs G t) (f .seen),
-      )
+queued-none : (q : List ℕ) (i end : ℕ) → end ≤ i → queued q i end ≡ []
+queued-none q i end h = drop-of-length-le (take end q) {i = i} (rw length-take (omega arith))
 
--- ---- the atoms of one distance are looked at, one after the other
+-- What was appended stands after the old end.
+pub queued-new : {q : List ℕ} {end s : ℕ} {q′ : List ℕ} {end′ : ℕ} → end ≤ length q → Appended q end s q′ end′ → queued q′ end end′ ≡ members 64 s
+queued-new {q} {end} {s} room appended =
+    ap (drop end) (appended .atoms)
+    ∙ drop-append-le end (take end q) (members 64 s) (omega (arith, length-take-le end q room))
+    ∙ ap (λ (l : List ℕ). l ++ members 64 s) (queued-none q end end (omega arith))
 
 in-drop : (l : List ℕ) (from i : ℕ) → from ≤ i → i < length l → getD l i 0 ∈ drop from l
 in-drop [] from i h room = absurd (omega arith)
@@ -130,127 +114,31 @@ in-drop (x ∷ l) zero (suc i) h room = _∈_.later (in-drop l zero i (omega ari
 in-drop (x ∷ l) (suc from) zero h room = absurd (omega arith)
 in-drop (x ∷ l) (suc from) (suc i) h room = in-drop l from i (omega arith) (omega arith)
 
-queued-none : (q : List ℕ) (end : ℕ) → queued q end end ≡ []
-queued-none q end = drop-of-length-le (take end q) {i = end} (rw length-take (omega arith))
+-- What stands in a part of the queue is an atom.
+pub atom-named : (q : List ℕ) (from end i : ℕ) → Named q from end → end ≤ length q → from ≤ i → i < end → getD q i 0 < 64
+atom-named q from end i named room h here =
+    rw (sym (getD-take end q i 0 here)) (named (getD (take end q) i 0) (in-drop (take end q) from i h (omega (arith, length-take-le end q room))))
 
-module _ (G : Net) (q₀ : List ℕ) (from : ℕ) (f : Found) where
-  -- Before place i of the queue q₀, with `now` and the queue q as they are then.
-  pub record Levelling (i : ℕ) (q : List ℕ) (now : Found) : Type 0 where
-    pub kept : take (f .end) q ≡ take (f .end) q₀
-    pub rest : through (gather G) (queued q₀ i (f .end)) (now .seen) ≡ through (gather G) (queued q₀ from (f .end)) (f .seen)
-    pub old : (t : ℕ) → bit (f .seen) t ≡ 1 → bit (now .seen) t ≡ 1
-    pub small : now .seen < 2 ^ 64
-    pub count : now .end ≡ lengthTo 64 (now .seen)
-    pub grown : f .end ≤ now .end
-    pub new : (t : ℕ) → (t ∈ queued q (f .end) (now .end)) ↔ ((bit (now .seen) t ≡ 1) × (bit (f .seen) t ≡ 1 → ⊥))
+module _ (G : Net) (q : List ℕ) (from end : ℕ) where
+  -- The neighbours of the atoms before place i are gathered.
+  pub record Gathering (i all : ℕ) : Type 0 where
+    pub rest : through (gather G) (queued q i end) all ≡ beside G q from end
 
-  -- Before the first atom of the distance.
-  pub levelling-start : f .seen < 2 ^ 64 → f .end ≡ lengthTo 64 (f .seen) → Levelling from q₀ f
-  levelling-start h full = record {
-    kept = refl;
-    rest = refl;
-    old = λ t e. e;
-    small = h;
-    count = full;
-    grown = omega arith;
-    new = λ t. (λ m. absurd (not-in-none (subst (λ (l : List ℕ). t ∈ l) (queued-none q₀ (f .end)) m)), λ p. absurd (p .1 (p .0)));
-  }
+  -- Before the first atom.
+  pub gathering-start : Gathering from 0
+  unfolding beside
+  gathering-start = record { rest = refl }
 
-  module _ {i : ℕ} {q : List ℕ} {now : Found} (levelling : Levelling i q now) (room : 64 ≤ length q) (here : i < f .end) where
-    -- The queue is as long as there are atoms at most.
-    pub queue-end : f .end ≤ 64
-    queue-end = omega (arith, levelling .grown, levelling .count, length-le 64 (now .seen))
-
-    -- The atom at place i is that of the queue as it was.
-    atom-here : getD q i 0 ≡ getD (take (f .end) q₀) i 0
-    atom-here = sym (getD-take (f .end) q i 0 here) ∙ ap (λ (l : List ℕ). getD l i 0) (levelling .kept)
-
-    -- The atom at place i is an atom.
-    pub atom-named : from ≤ i → 64 ≤ length q₀ → Named q₀ from (f .end) → getD q i 0 < 64
-    atom-named h room₀ named =
-        let long : length (take (f .end) q₀) ≡ f .end = length-take-le (f .end) q₀ (omega (arith, queue-end)) in
-        rw atom-here (named (getD (take (f .end) q₀) i 0) (in-drop (take (f .end) q₀) from i h (omega arith)))
-
-    module _ (room₀ : 64 ≤ length q₀) (q′ : List ℕ) (next : Found) (near-small : nbrs G (getD q i 0) < 2 ^ 64)
-        (visited : Visited G (getD q i 0) q now q′ next) where
-      abbrev added : List ℕ
-      added = members 64 (newAt G (getD q i 0) (now .seen))
-
-      end-small : now .end ≤ 64
-      end-small = omega (arith, levelling .count, length-le 64 (now .seen))
-
-      seam : f .end ≤ length (take (now .end) q)
-      seam = omega (arith, length-take-le (now .end) q (omega (arith, end-small)), levelling .grown)
-
-      kept-next : take (f .end) q′ ≡ take (f .end) q₀
-      kept-next =
-          sym (take-take (f .end) (next .end) q′ (omega (arith, levelling .grown, visited .grown))) ∙ ap (take (f .end)) (visited .atoms)
-          ∙ take-append-le (f .end) (take (now .end) q) added seam ∙ take-take (f .end) (now .end) q (levelling .grown) ∙ levelling .kept
-
-      rest-next : through (gather G) (queued q₀ (i + 1) (f .end)) (next .seen) ≡ through (gather G) (queued q₀ from (f .end)) (f .seen)
-      unfolding through
-      rest-next =
-          let long = length-take-le (f .end) q₀ (omega (arith, queue-end)) in
-          let split : queued q₀ i (f .end) ≡ getD q i 0 ∷ queued q₀ (suc i) (f .end) =
-          drop-cons (take (f .end) q₀) i 0 (omega (arith, long)) ∙ ap (λ (a : ℕ). a ∷ queued q₀ (suc i) (f .end)) (sym atom-here) in
-          ap₂ (λ (k s : ℕ). through (gather G) (queued q₀ k (f .end)) s) (add-one i)
-          (visited .saw ∙ seen-gather G (getD q i 0) now (levelling .small) near-small (levelling .count))
-          ∙ sym (ap (λ (l : List ℕ). through (gather G) l (now .seen)) split) ∙ levelling .rest
-
-      seen-has : (t : ℕ) → (bit (next .seen) t ≡ 1) ↔ ((bit (now .seen) t ≡ 1) ⊎ (bit (newAt G (getD q i 0) (now .seen)) t ≡ 1))
-      seen-has t = rw (visited .saw) (or-has (now .seen) (newAt G (getD q i 0) (now .seen)) t)
-
-      added-has : (t : ℕ) → (t ∈ added) ↔ ((bit (nbrs G (getD q i 0)) t ≡ 1) × (bit (now .seen) t ≡ 1 → ⊥))
-      added-has t =
-          let new = newAt G (getD q i 0) (now .seen) in
-          let has = without-has 64 (nbrs G (getD q i 0)) (now .seen) t near-small in (
-            λ m. has .0 (bit-of-mem 64 new t m),
-            λ p. let e = has .1 p in mem-of-bit 64 new t (lt-of-has 64 new t (omega (arith, near-small)) e) e,
-          )
-
-      new-next : (t : ℕ) → (t ∈ queued q′ (f .end) (next .end)) ↔ ((bit (next .seen) t ≡ 1) × (bit (f .seen) t ≡ 1 → ⊥))
-      new-next t = rw split (to, from′)
-        where
-          split : queued q′ (f .end) (next .end) ≡ queued q (f .end) (now .end) ++ added
-          split = ap (drop (f .end)) (visited .atoms) ∙ drop-append-le (f .end) (take (now .end) q) added seam
-
-          to : t ∈ (queued q (f .end) (now .end) ++ added) → (bit (next .seen) t ≡ 1) × (bit (f .seen) t ≡ 1 → ⊥)
-          to m =
-              ⊎-elim (λ (l : t ∈ queued q (f .end) (now .end)). let p = levelling .new t .0 l in (seen-has t .1 (inl (p .0)), p .1))
-              (λ (r : t ∈ added). (seen-has t .1 (inr (bit-of-mem 64 (newAt G (getD q i 0) (now .seen)) t r)), λ e. added-has t .0 r .1 (levelling .old t e)))
-              (in-append (queued q (f .end) (now .end)) added m)
-
-          from′ : (bit (next .seen) t ≡ 1) × (bit (f .seen) t ≡ 1 → ⊥) → t ∈ (queued q (f .end) (now .end) ++ added)
-          from′ p =
-              ⊎-elim (λ (l : bit (now .seen) t ≡ 1). in-left added (levelling .new t .1 (l, p .1)))
-              (λ (r : bit (newAt G (getD q i 0) (now .seen)) t ≡ 1). in-right (queued q (f .end) (now .end))
-              (mem-of-bit 64 (newAt G (getD q i 0) (now .seen)) t (lt-of-has 64 (newAt G (getD q i 0) (now .seen)) t (omega (arith, near-small)) r) r))
-              (seen-has t .0 (p .0))
-
-      -- One atom more.
-      pub levelling-next : next .seen < 2 ^ 64 → Levelling (i + 1) q′ next
-      levelling-next small = record {
-        kept = kept-next;
-        rest = rest-next;
-        old = λ t e. seen-has t .1 (inl (levelling .old t e));
-        small = small;
-        count = visited .count;
-        grown = omega (arith, levelling .grown, visited .grown);
-        new = new-next;
-      }
-
-  -- All atoms of the distance are looked at.
-  pub levelling-end : {i : ℕ} {q : List ℕ} {now : Found} → i ≡ f .end → Levelling i q now → Levelled G q₀ from f q now
+  -- One atom more.
+  pub gathering-next : {i all : ℕ} → end ≤ length q → i < end → Gathering i all → Gathering (i + 1) (bitOr all (nbrs G (getD q i 0)))
   unfolding through
-  levelling-end {i} {q} {now} e levelling = record { saw = saw; count = levelling .count; grown = levelling .grown; new = levelling .new }
-    where
-      all : now .seen ≡ through (gather G) (queued q₀ from (f .end)) (f .seen)
-      all =
-          sym (ap (λ (l : List ℕ). through (gather G) l (now .seen)) (ap (λ (k : ℕ). queued q₀ k (f .end)) e ∙ queued-none q₀ (f .end))) ∙ levelling .rest
+  gathering-next {i} {all} room here gathering =
+      let split : queued q i end ≡ getD q i 0 ∷ queued q (i + 1) end =
+      drop-cons (take end q) i 0 (omega (arith, length-take-le end q room))
+      ∙ ap₂ (λ (a k : ℕ). a ∷ queued q k end) (getD-take end q i 0 here) (sym (add-one i)) in
+      record { rest = sym (ap (λ (l : List ℕ). through (gather G) l all) split) ∙ gathering .rest }
 
-      saw : (t : ℕ) → (bit (now .seen) t ≡ 1) ↔ ((bit (f .seen) t ≡ 1) ⊎ ((a : ℕ) × (a ∈ queued q₀ from (f .end)) × (bit (nbrs G a) t ≡ 1)))
-      saw t = rw all (
-        λ h. gather-has G (queued q₀ from (f .end)) (f .seen) t h,
-        ⊎-elim (λ (l : bit (f .seen) t ≡ 1). gather-keeps G (queued q₀ from (f .end)) (f .seen) t l)
-            (λ (r : (a : ℕ) × (a ∈ queued q₀ from (f .end)) × (bit (nbrs G a) t ≡ 1)). gather-takes G (f .seen) t (r .0) (r .1) (r .2)),
-      )
+  -- All atoms are done.
+  pub gathering-end : {i all : ℕ} → end ≤ i → Gathering i all → all ≡ beside G q from end
+  unfolding through
+  gathering-end {i} {all} h gathering = sym (ap (λ (l : List ℕ). through (gather G) l all) (queued-none q i end h)) ∙ gathering .rest

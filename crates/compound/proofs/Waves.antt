@@ -2,8 +2,9 @@
 use mathlib.Core.Path.{_≡_, refl, sym, ap, _∙_}
 use mathlib.Core.Logic.{⊎-elim}
 use Prim.Native.Nat.{ℕ, zero, suc, _+_, _-_, _^_, _≤_, _<_}
+use native.Mathlib.Nat.{pow-suc}
 use native.Mathlib.Omega.{arith}
-use lib.Bits.{bitAnd, bitOr, and-lt, or-disjoint}
+use lib.Bits.{bitAnd, bitOr, and-le-l, or-disjoint}
 use Rattle.bondset.proofs.Laws.{lt-or-ge}
 use Rattle.bondset.proofs.Members.{members-zero}
 use Rattle.model.specs.Fold.{through}
@@ -11,15 +12,19 @@ use Rattle.model.specs.Net.{Net, near}
 use Rattle.model.specs.Layer.{Wave, spread, wave}
 use Rattle.model.proofs.NetBits.{and-has, without-has, zero-of-none}
 
+lt-two-pow : (n : ℕ) → n < 2 ^ n
+lt-two-pow zero = omega arith
+lt-two-pow (suc n) = omega (arith, lt-two-pow n, pow-suc 2 n)
+
 -- What x adds to a set s is apart from it.
-pub and-without : (s x : ℕ) → s < 2 ^ 64 → x < 2 ^ 64 → bitAnd s (x - bitAnd x s) ≡ 0
-and-without s x hs hx =
-    zero-of-none 64 (bitAnd s (x - bitAnd x s)) (and-lt 64 s (x - bitAnd x s) hs (omega arith))
-    (λ k e. let both = and-has s (x - bitAnd x s) k .0 e in without-has 64 x s k hx .0 (both .1) .1 (both .0))
+pub and-without : (s x : ℕ) → bitAnd s (x - bitAnd x s) ≡ 0
+and-without s x =
+    zero-of-none s (bitAnd s (x - bitAnd x s)) (omega (arith, and-le-l s (x - bitAnd x s), lt-two-pow s))
+    (λ k e. let both = and-has s (x - bitAnd x s) k .0 e in without-has x x s k (lt-two-pow x) .0 (both .1) .1 (both .0))
 
 -- So the union is the sum.
-pub or-without : (s x : ℕ) → s < 2 ^ 64 → x < 2 ^ 64 → bitOr s (x - bitAnd x s) ≡ s + (x - bitAnd x s)
-or-without s x hs hx = or-disjoint s (x - bitAnd x s) (and-without s x hs hx)
+pub or-without : (s x : ℕ) → bitOr s (x - bitAnd x s) ≡ s + (x - bitAnd x s)
+or-without s x = or-disjoint s (x - bitAnd x s) (and-without s x)
 
 -- The empty set has no neighbours.
 pub near-none : (G : Net) → near G 0 ≡ 0

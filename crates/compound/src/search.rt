@@ -6,7 +6,6 @@ ghost use lib.ListN.{length};
 ghost use Rattle.model.specs.Layer.{wave, layersInto};
 ghost use Rattle.compound.specs.Nets.{neighbours};
 ghost use Rattle.compound.specs.Search.{Ready, Goes};
-use crate::queue::Found;
 
 /// The atoms that a search from atom 0 sees within `n` steps.
 fn reached(n: usize, adj: &[u64]) -> u64
@@ -37,15 +36,15 @@ pub fn in_one_piece(n: usize, adj: &[u64]) -> bool
     reached(n, adj) == last - 1 + last
 }
 
-/// A search under way: its sets, and where its last atoms stand in the queue.
+/// A search under way, at some distance from its start: its sets, and where the atoms at that distance stand in the queue.
 pub struct Search {
-    /// All atoms seen.
+    /// All atoms up to that distance.
     pub seen: u64,
-    /// The atoms at the last distance that are under the start.
+    /// The atoms one step further that are under the start.
     pub under: u64,
-    /// Where the atoms at the last distance begin in the queue.
+    /// Where the atoms at that distance begin in the queue.
     pub from: usize,
-    /// Where the queue ends.
+    /// Where they end, and the queue with them.
     pub end: usize,
 }
 
@@ -59,38 +58,46 @@ fn next(adj: &[u64], pre: u64, queue: &mut [u8], s: Search) -> Search
     if s.under == 0 {
         return s;
     }
-    let seen = s.seen;
-    let end = s.end;
-    let found = crate::queue::level(adj, queue, s.from, Found { seen, end });
-    let front = found.seen - (found.seen & seen);
-    let beside = crate::near(adj, s.under);
+    let from = s.end;
+    let reach = crate::queue::beside(adj, queue, s.from, from);
+    let new = reach - (reach & s.seen);
+    let seen = s.seen | new;
+    let end = crate::queue::append(queue, from, new);
+    let below = crate::near(adj, s.under) & pre;
     Search {
-        seen: found.seen,
-        under: front & beside & pre,
-        from: end,
-        end: found.end,
+        seen,
+        under: below - (below & seen),
+        from,
+        end,
     }
 }
 
 /// Writes the layers 0 to `depth` under `r`: the atoms at each distance from `r` that are under it, where only the atoms `pre` precede `r`.
+/// An atom of a layer is bonded to one of the layer before and not seen nearer, so the atoms at the last distance are not looked for.
 pub fn layers(adj: &[u64], pre: u64, r: usize, depth: usize, layers: &mut [u64])
     requires { ⌜ r < 64 ⌝ }
     requires { ⌜ 64 ≤ length (now adj) ⌝ }
     requires { ⌜ depth < length (now layers) ⌝ }
     ensures { λ _. ⌜ now (layers .exit) ≡ layersInto (neighbours (now (adj .entry))) pre r depth (now (layers .entry)) ⌝ }
 {
+    let start = 1u64 << r;
+    layers[0] = start;
+    if depth == 0 {
+        return;
+    }
+    let below = adj[r] & pre;
+    let under = below - (below & start);
+    layers[1] = under;
     let mut queue = [0u8; 64];
     queue[0] = r as u8;
-    let start = 1u64 << r;
     let mut s = Search {
         seen: start,
-        under: start,
+        under,
         from: 0,
         end: 1,
     };
-    layers[0] = start;
-    for d in 0..depth {
+    for d in 0..depth - 1 {
         s = next(adj, pre, &mut queue, s);
-        layers[d + 1] = s.under;
+        layers[d + 2] = s.under;
     }
 }

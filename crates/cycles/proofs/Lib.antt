@@ -22,4 +22,5 @@ pub mod Ranks
 pub mod Unique
 pub mod OneRow
 pub mod FewClasses
+pub mod FirstMarked
 pub mod Refusals

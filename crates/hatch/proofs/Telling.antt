@@ -49,3 +49,16 @@ module _ (a : Answer) (size : ℕ) {r : Reply} (made : r ≡ replyOf (told a siz
 pub answered-as : {n i : ℕ} {bonds rows classRows rows′ classRows′ : List ℕ} {s t : Told} → t ≡ s
     → Answered n bonds rows classRows i s rows′ classRows′ → Answered n bonds rows classRows i t rows′ classRows′
 answered-as {n} {i} {bonds} {rows} {classRows} {rows′} {classRows′} e = subst (λ t. Answered n bonds rows classRows i t rows′ classRows′) (sym e)
+
+-- What a call on an answer ensures of the reply that is made of it: without a size, and with one.
+module _ {n : ℕ} {bonds rows classRows rows′ classRows′ : List ℕ} (a : Answer) {r : Reply} where
+  pub families-told : r ≡ replyOf (told a 0) → ((i : ℕ) → (size : ℕ) × Answered n bonds rows classRows i (told a size) rows′ classRows′)
+      → ((i : ℕ) → (size : ℕ) × Answered n bonds rows classRows i (withSize (toldBy r) size) rows′ classRows′) × (r ≡ replyOf (withSize (toldBy r) 0))
+  families-told made claim = (
+    λ i. (claim i .0, answered-as (withSize-made a 0 made (claim i .0)) (claim i .1)),
+    made ∙ ap replyOf (sym (withSize-made a 0 made 0)),
+  )
+
+  pub size-told : {row : ℕ} (size : ℕ) → r ≡ replyOf (told a size) → Answered n bonds rows classRows row (told a size) rows′ classRows′
+      → Answered n bonds rows classRows row (toldBy r) rows′ classRows′ × (r ≡ replyOf (toldBy r))
+  size-told size made claim = (answered-as (toldBy-made a size made) claim, made ∙ ap replyOf (sym (toldBy-made a size made)))

@@ -1,9 +1,13 @@
-//! The engine's calls for C and Rust. A slice passes as a pointer and a length. No call asks anything of its caller.
+//! The engine's calls for C and Rust, with bonds lent as bytes or as records. A slice passes as a pointer and a length. No call
+//! asks anything of its caller.
 ghost use mathlib.Core.Path.{_≡_};
 ghost use Prim.Native.Nat.{ℕ};
+ghost use lib.ListN.{take};
 ghost use Rattle.answers.specs.Answered.{Answered};
 ghost use Rattle.rings.specs.Calls.{told};
+ghost use Rattle.records.specs.Records.{flattened, bytesOf};
 ghost use Rattle.hatch.specs.Replies.{toldBy, replyOf, withSize};
+use records::Bond;
 use rings::Answer;
 
 /// What a call answers: a refusal's number and what it names, or 0 twice and the numbers. In a refusal the numbers are 0.
@@ -108,4 +112,71 @@ pub extern "C" fn rings_family_size(
     let sized = rings::family_size(n, bonds, family_rows, class_rows, row);
     let answer = sized.answer;
     replied(answer, sized.size)
+}
+
+/// The ring families of a compound, from the bytes of so many records.
+fn families_copied(
+    n: usize,
+    count: usize,
+    all: [u8; 192],
+    family_rows: &mut [u8],
+    class_rows: &mut [u8],
+) -> Reply
+    ensures answered { λ r. ⌜ ((i : ℕ) → (size : ℕ) × Answered n (take (bytesOf count) all) (now («family_rows» .entry)) (now («class_rows» .entry)) i
+        (withSize (toldBy r) size) (now («family_rows» .exit)) (now («class_rows» .exit))) ⌝ }
+    ensures plain { λ r. ⌜ r ≡ replyOf (withSize (toldBy r) 0) ⌝ }
+{
+    let found = records::families_copied(n, count, all, family_rows, class_rows);
+    replied(found, 0)
+}
+
+/// The same, and the size of the family of a row.
+fn family_size_copied(
+    n: usize,
+    count: usize,
+    all: [u8; 192],
+    family_rows: &mut [u8],
+    class_rows: &mut [u8],
+    row: usize,
+) -> Reply
+    ensures answered { λ r. ⌜ Answered n (take (bytesOf count) all) (now («family_rows» .entry)) (now («class_rows» .entry)) row (toldBy r)
+        (now («family_rows» .exit)) (now («class_rows» .exit)) ⌝ }
+    ensures plain { λ r. ⌜ r ≡ replyOf (toldBy r) ⌝ }
+{
+    let found = records::family_size_copied(n, count, all, family_rows, class_rows, row);
+    let answer = found.answer;
+    replied(answer, found.size)
+}
+
+/// The ring families of a compound of `n` atoms, whose bonds are lent as records.
+#[no_mangle]
+pub extern "C" fn rings_families_of(
+    n: usize,
+    bonds: &[Bond],
+    family_rows: &mut [u8],
+    class_rows: &mut [u8],
+) -> Reply
+    ensures answered { λ r. ⌜ ((i : ℕ) → (size : ℕ) × Answered n (flattened (now (bonds .entry))) (now («family_rows» .entry)) (now («class_rows» .entry)) i
+        (withSize (toldBy r) size) (now («family_rows» .exit)) (now («class_rows» .exit))) ⌝ }
+    ensures plain { λ r. ⌜ r ≡ replyOf (withSize (toldBy r) 0) ⌝ }
+{
+    let all = records::copied(bonds);
+    families_copied(n, bonds.len(), all, family_rows, class_rows)
+}
+
+/// The same, and the size of the family of a row.
+#[no_mangle]
+pub extern "C" fn rings_family_size_of(
+    n: usize,
+    bonds: &[Bond],
+    family_rows: &mut [u8],
+    class_rows: &mut [u8],
+    row: usize,
+) -> Reply
+    ensures answered { λ r. ⌜ Answered n (flattened (now (bonds .entry))) (now («family_rows» .entry)) (now («class_rows» .entry)) row (toldBy r)
+        (now («family_rows» .exit)) (now («class_rows» .exit)) ⌝ }
+    ensures plain { λ r. ⌜ r ≡ replyOf (toldBy r) ⌝ }
+{
+    let all = records::copied(bonds);
+    family_size_copied(n, bonds.len(), all, family_rows, class_rows, row)
 }

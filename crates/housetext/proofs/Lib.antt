@@ -5,5 +5,5 @@ pub mod Starts
 pub mod Fields
 pub mod Reading
 pub mod RoundTrip
+pub mod Beginning
 pub mod Examples
-pub mod Writing

@@ -2,4 +2,3 @@
 pub mod Decimal
 pub mod Text
 pub mod Scan
-pub mod Listing

@@ -1,4 +1,4 @@
-//! House text: reading a compound's text, and writing the listing.
+//! House text: reading a compound's text.
 //!
 //! A text is `atoms=N`, `bonds=M` and M lines `bond=A-B`, each ended by one newline, with nothing after. Numbers are 0 to 255 in
 //! decimal with no leading zero. `read` says what a text says, or which of its lines departs first.
@@ -8,8 +8,6 @@ ghost use lib.ListN.{length};
 ghost use mathlib.Core.List.{[]};
 ghost use Rattle.housetext.specs.Scan.{digitAt, scanned};
 ghost use Rattle.housetext.specs.Text.{starts, fieldAt, bondAt, passes, bondsFrom, reads, Answers};
-
-pub mod listing;
 
 /// What a text says.
 pub enum Text {

@@ -13,14 +13,14 @@ use lib.ListN.{length, getD, set, replicate, length-replicate, getD-replicate, L
 use lib.Pow.{pow-pos, pow-lt}
 use lib.Seq.{getD-set-same, getD-set-other, set-getD, set-out}
 use borrow.Author.Tests.{eqb-true}
-use Rattle.bondset.specs.Sets.{bit, has, lengthTo, members}
+use Rattle.bondset.specs.Sets.{bit, has, members}
 use Rattle.bondset.proofs.Laws.{lt-or-ge, pos-of-ne, zero-bit, trailing}
-use Rattle.bondset.proofs.Members.{lengthTo-members, mem-of-bit}
-use Rattle.spans.specs.Elements.{_∈_, first}
+use Rattle.bondset.proofs.Members.{members-zero}
 use Rattle.model.specs.Fold.{through, count}
 use Rattle.model.specs.State.{labelsIn, relabel, joined}
 use Rattle.ledger.specs.Ledger.{Numbers, numberedIn}
-use Rattle.ledger.specs.Held.{Labelled}
+use Rattle.model.proofs.NumbersJoin.{labels-in}
+use Rattle.ledger.specs.Held.{Labelled, Alike}
 
 -- what holds of both holds of the one that is picked
 pub cond-both : {X : Type 0} (P : X → Type 0) (b : Bool) (x y : X) → P x → P y → P (cond b x y)
@@ -81,15 +81,6 @@ joined-labelled short marks t labels h =
 
 -- ---- nothing to join
 
-same-of-short : {x y : ℕ} (xs : List ℕ) → length xs < 2 → x ∈ xs → y ∈ xs → x ≡ y
-same-of-short (z ∷ []) l first first = refl
-same-of-short (z ∷ v ∷ xs) l m n = absurd (omega arith)
-
-only-lowest : (w : ℕ) → w < 2 ^ 128 → lengthTo 128 w < 2 → (x : ℕ) → x < 128 → bit w x ≡ 1 → x ≡ trailingZeros 128 w
-only-lowest w l h x k b =
-    let t = trailing 128 w (bit-some w x b) l in
-    same-of-short (members 128 w) (rw lengthTo-members at h) (mem-of-bit 128 w x k b) (mem-of-bit 128 w (trailingZeros 128 w) (t .small) (t .here))
-
 module _ (w : ℕ) (only : (x : ℕ) → x < 128 → bit w x ≡ 1 → x ≡ trailingZeros 128 w) (labels : List ℕ) (h : Labelled labels) where
   relabel-same : (j : ℕ) → relabel w (trailingZeros 128 w) j labels ≡ labels
   unfolding relabel
@@ -104,12 +95,28 @@ module _ (w : ℕ) (only : (x : ℕ) → x < 128 → bit w x ≡ 1 → x ≡ tra
   relabelled-same [] = refl
   relabelled-same (j ∷ js) = rw (relabel-same j) (relabelled-same js)
 
+labels-none : (labels : List ℕ) → labelsIn labels 0 ≡ 0
+unfolding labelsIn through
+labels-none labels = rw (members-zero 128)
+
 -- one label, or none
-pub joined-same : (short marks t : ℕ) (labels : List ℕ) → Labelled labels → lengthTo 128 (labelsIn labels t) < 2 → labels ≡ joined short marks t labels
-unfolding joined labelsIn
-joined-same short marks t labels h l =
-    let w = labelsIn labels t in
-    sym (relabelled-same w (only-lowest w (labels-lt labels h (members 128 t) 0 (pow-pos 128)) l) labels h (count short (marks - short)))
+pub joined-alike : (short marks t : ℕ) (labels : List ℕ) → Labelled labels → t < 2 ^ 128 → Alike labels t → labels ≡ joined short marks t labels
+unfolding joined
+joined-alike short marks t labels h small alike = sym (relabelled-same w only labels h (count short (marks - short)))
+  where
+    w : ℕ
+    w = labelsIn labels t
+
+    only : (x : ℕ) → x < 128 → bit w x ≡ 1 → x ≡ trailingZeros 128 w
+    only x l b = elim (ℕ-discrete t 0) [
+      | yes z ↦ absurd (omega (arith, ap (λ (v : ℕ). bit (labelsIn labels v) x) z, ap (λ (v : ℕ). bit v x) (labels-none labels), zero-bit x))
+      | no some ↦
+          let low = trailing 128 t (pos-of-ne t some) small in
+          let named = labels-in labels t (trailingZeros 128 t) (low .small) (low .here) (λ j e. h .below j) in
+          let one = named .label-from x b in
+          let least = named .label-from (trailingZeros 128 w) (named .lowest .here) in
+          sym (one .2) ∙ alike (one .0) (least .0) (one .1) (least .1) ∙ least .2
+    ]
 
 -- ---- numbering
 

@@ -1,15 +1,17 @@
 -- Loops over numbers and over the members of a set, one turn at a time: what is left of the loop gives the same in the end.
-use mathlib.Core.Path.{_≡_, sym, ap, ap₂, _∙_, subst}
+use mathlib.Core.Path.{_≡_, refl, sym, ap, ap₂, _∙_, subst}
 use mathlib.Core.Bool.{Bool, false}
-use Prim.Native.Nat.{ℕ, suc, _+_, _-_, _^_, _≤_, _<_}
+use mathlib.Core.Logic.{_⊎_, inl, inr}
+use Prim.Native.Nat.{ℕ, zero, suc, _+_, _-_, _^_, _≤_, _<_}
 use native.Mathlib.Numerals.{add-one}
+use native.Mathlib.Decide.{ℕ-discrete}
 use native.Mathlib.Omega.{arith}
-use lib.Bits.{bitXor}
+use lib.Bits.{bitXor, differ}
 use lib.Count.{trailingZeros}
 use lib.Dec.{eqb}
 use borrow.Author.Tests.{eqb-false}
-use Rattle.bondset.specs.Sets.{members, single}
-use Rattle.bondset.proofs.Laws.{pos-of-ne, trailing, single-below}
+use Rattle.bondset.specs.Sets.{bit, members, single}
+use Rattle.bondset.proofs.Laws.{pos-of-ne, bit-xor, bit-pow-other, trailing, single-below}
 use Rattle.bondset.proofs.Members.{members-zero, members-step, clear-lowest, and-pred-lt}
 use Rattle.model.specs.Fold.{through, count}
 
@@ -27,6 +29,19 @@ without-lowest s j one t empty l e f p q r =
     let k = trailing 128 s some l in
     let left : t ≡ bitXor s (2 ^ trailingZeros 128 s) = r ∙ ap (bitXor s) (q ∙ ap single p ∙ single-below (trailingZeros 128 s) (k .small)) in
     record { some = some; left = left; less = subst (λ (x : ℕ). x < s) (clear-lowest 128 s some l ∙ sym left) (and-pred-lt s some) }
+
+-- What is not left was the lowest member, or no member.
+pub without-out : {s t : ℕ} → Without s t → (k : ℕ) → bit t k ≡ 0 → (k ≡ trailingZeros 128 s) ⊎ (bit s k ≡ 0)
+without-out {s} {t} w k z = elim (ℕ-discrete k (trailingZeros 128 s)) [ yes e ↦ inl e | no ne ↦ inr (sym (same ne) ∙ z) ]
+  where
+    keep : (x : ℕ) → differ x 0 ≡ x
+    keep zero = refl
+    keep (suc x) = refl
+
+    same : (k ≡ trailingZeros 128 s → ⊥) → bit t k ≡ bit s k
+    same ne =
+        ap (λ (x : ℕ). bit x k) (w .left) ∙ bit-xor s (2 ^ trailingZeros 128 s) k
+        ∙ ap (differ (bit s k)) (bit-pow-other (trailingZeros 128 s) k (λ e. ne (sym e))) ∙ keep (bit s k)
 
 module _ {S : Type 0} (step : ℕ → S → S) where
   -- no number, and one number and more

@@ -6,6 +6,7 @@ use Prim.Native.Nat.{ℕ, _+_, _-_, _*_, _/_, _%_, _^_, _<_, _≤_}
 use lib.Dec.{eqb, ltb}
 use lib.ListN.{length, getD, set}
 use lib.Seq.{paste}
+use Rattle.bondset.specs.Sets.{bit}
 use Rattle.cycles.specs.Family.{Family}
 use Rattle.model.specs.Fold.{through, count}
 use Rattle.ledger.specs.declared.Spot.{Spot}
@@ -63,6 +64,10 @@ pub record Sized (rows tags pivots : List ℕ) : Type 0 where
 -- Each label names a marked ring or a class.
 pub record Labelled (labels : List ℕ) : Type 0 where
   pub below : (i : ℕ) → getD labels i 0 < 128
+
+-- The marked rings that t names have one label.
+abbrev pub Alike : List ℕ → ℕ → Type 0
+Alike labels t = (i j : ℕ) → bit t i ≡ 1 → bit t j ≡ 1 → getD labels i 0 ≡ getD labels j 0
 
 -- The tally counts what there is room for.
 pub record Fit (labels holds : List ℕ) (t : Tally) : Type 0 where

@@ -1,12 +1,13 @@
 //! Labels of marked rings: which a tag names, and how they are joined.
 ghost use mathlib.Core.Path.{_≡_};
+ghost use mathlib.Core.Bool.{true};
 ghost use Prim.Native.Nat.{_<_, _≤_, _^_};
 ghost use lib.Bits.{bitOr};
 ghost use lib.Count.{trailingZeros};
 ghost use lib.ListN.{length, getD};
 ghost use Rattle.bondset.specs.Sets.{value};
 ghost use Rattle.model.specs.State.{labelsIn, relabel as relabelled, joined};
-ghost use Rattle.ledger.specs.Held.{Labelled};
+ghost use Rattle.ledger.specs.Held.{Labelled, Alike};
 use bondset::BondSet;
 
 /// Byte `i`, or 0 if there is none.
@@ -56,16 +57,32 @@ fn relabel(labels: &mut [u8], w: BondSet, j: usize)
     }
 }
 
-/// Joins the classes of the marked rings from, .., to - 1 that `t` names: nothing changes if they have one label.
+/// Whether the marked rings that `t` names have one label.
+fn alike(labels: &[u8], t: BondSet) -> bool
+    ensures { λ r. ⌜ (r ≡ true → Alike (now (labels .entry)) (value t)) ⌝ }
+{
+    let first = byte_at(labels, bondset::lowest(t));
+    let mut rest = t;
+    while !bondset::is_empty(rest) {
+        let j = bondset::lowest(rest);
+        if byte_at(labels, j) != first {
+            return false;
+        }
+        rest = bondset::sum(rest, bondset::single(j));
+    }
+    true
+}
+
+/// Joins the classes of the marked rings from, .., to - 1 that `t` names: nothing changes if they have one label, as most often.
 pub fn join(labels: &mut [u8], from: usize, to: usize, t: BondSet)
     requires { ⌜ to ≤ length (now labels) ⌝ }
     requires { ⌜ Labelled (now labels) ⌝ }
     ensures { λ _. ⌜ now (labels .exit) ≡ joined from to (value t) (now (labels .entry)) ⌝ }
 {
-    let w = labels_in(labels, t);
-    if bondset::length(w) < 2 {
+    if alike(labels, t) {
         return;
     }
+    let w = labels_in(labels, t);
     for j in from..to {
         relabel(labels, w, j);
     }

@@ -1,5 +1,5 @@
 -- The lines of an answer, the room that they need, and what a text that is read says.
-use mathlib.Core.Path.{_≡_, refl, sym, ap, subst, _∙_}
+use mathlib.Core.Path.{_≡_, sym, ap, subst, _∙_}
 use mathlib.Core.List.{List}
 use Prim.Native.Nat.{ℕ, _*_, _<_, _≤_}
 use native.Mathlib.Omega.{arith}
@@ -7,14 +7,15 @@ use lib.ListN.{length, take, getD, replicate, length-replicate}
 use lib.Seq.{take-append-seam}
 use Rattle.housetext.specs.declared.Text.{Text}
 use Rattle.housetext.specs.declared.Text.the-variants.{Read, Departs}
-use Rattle.housetext.specs.Text.{Said, passes, refuses, said, reads, Answers}
-use Rattle.housetext.specs.Listing.{Wrote, listing, refusal}
+use Rattle.housetext.specs.Text.{Said, passes, refuses, said, Reading, reads, Answers}
+use Rattle.listingtext.specs.Listing.{Wrote, listing, refusal}
 use Rattle.housetext.proofs.RoundTrip.{Says, textOf-reads}
+use Rattle.housetext.proofs.Beginning.{reads-beginning}
 use Rattle.answers.specs.Answered.{Told, full, refused, Answered, by-input, by-rows, by-class-rows, by-rings, in-full}
 use Rattle.rings.specs.declared.Answer.{Answer}
 use Rattle.rings.specs.declared.Answer.the-variants.{Full, WrongAtoms, WrongBytes, NoAtom, Loop, Again, Pieces, FewRows, FewClassRows, ManyRings}
 use Rattle.rings.specs.Calls.{told}
-use Rattle.listing.specs.Listed.{linesOf, familiesIn, classesIn, Printed, answers}
+use Rattle.listing.specs.Listed.{linesOf, familiesIn, classesIn, Printed, departs, answers, Listed}
 
 module _ (n m : ℕ) (rows sizes classRows : List ℕ) {lent left : List ℕ} {end : ℕ} {t : Told} where
   pub wrote-refused : {number at : ℕ} → t ≡ refused number at → Wrote lent 0 (refusal number at) left end
@@ -100,3 +101,18 @@ pub printed-answer : {text left : List ℕ} {n m : ℕ} (a : Answer) (rows sizes
     → Printed text (linesOf n m rows sizes classRows (told a 0))
 printed-answer a rows sizes classRows w f =
     answers a rows sizes classRows (w .says) (λ j h. rw (← w .bytes) (f j (subst (λ (k : ℕ). j < k) (sym (length-replicate {A = ℕ} 4096 0)) h)))
+
+-- what is printed for the first 4,096 bytes of a text is what is to be printed for the text
+printed-whole : {text lines : List ℕ} → Printed (take 4096 text) lines → Printed text lines
+printed-whole {text} p = go p (reads-beginning 4096 text (omega arith))
+  where
+    go : {lines : List ℕ} → Printed (take 4096 text) lines → reads (take 4096 text) ≡ reads text → Printed text lines
+    go (departs e) same = departs (ap (λ (r : Reading). r .says) (sym same) ∙ e)
+    go (answers {atoms = n} a rows sizes classRows e f) same =
+        answers a rows sizes classRows (ap (λ (r : Reading). r .says) (sym same) ∙ e)
+        (λ j h.
+        subst (λ (r : Reading). Answered n (r .bytes) (replicate 32768 0) (replicate 410 0) j (told a (getD sizes j 0)) rows classRows) same (f j h))
+
+-- the program may stop reading after 4,096 bytes
+pub listed-whole : {text lent left : List ℕ} {end : ℕ} → Listed (take 4096 text) lent left end → Listed text lent left end
+listed-whole w = record { lines = w .lines; printed = printed-whole (w .printed); wrote = w .wrote }

@@ -4,7 +4,7 @@ use mathlib.Core.List.{List}
 use Prim.Native.Nat.{ℕ, _<_}
 use lib.ListN.{getD, replicate}
 use Rattle.housetext.specs.Text.{passes, refuses, reads}
-use Rattle.housetext.specs.Listing.{Wrote, listing, refusal}
+use Rattle.listingtext.specs.Listing.{Wrote, listing, refusal}
 use Rattle.answers.specs.Answered.{Told, full, refused, Answered}
 use Rattle.rings.specs.declared.Answer.{Answer}
 use Rattle.rings.specs.Calls.{told}

@@ -1,14 +1,13 @@
 //! The listing program: house text in, the listing of the compound's ring families out, or a refusal.
 //!
 //! `list` does all of the work on slices; `main` only reads and writes.
-ghost use mathlib.Core.Path.{_≡_};
 ghost use Prim.Native.Nat.{_≤_, _+_, _*_};
 ghost use lib.ListN.{length};
-ghost use Rattle.housetext.specs.Listing.{Wrote};
+ghost use Rattle.listingtext.specs.Listing.{Wrote};
 ghost use Rattle.rings.specs.Calls.{told};
 ghost use Rattle.listing.specs.Listed.{linesOf, familiesIn, classesIn, Listed};
 use housetext::Text;
-use housetext::listing::Head;
+use listingtext::Head;
 use rings::Answer;
 
 // The listing of an answer, or the lines of its refusal.
@@ -46,17 +45,17 @@ fn write_answer(
                 total,
                 rings,
             };
-            housetext::listing::write_listing(head, rows, sizes, class_rows, out)
+            listingtext::write_listing(head, rows, sizes, class_rows, out)
         }
-        Answer::WrongAtoms => housetext::listing::write_refusal(1, 0, out),
-        Answer::WrongBytes => housetext::listing::write_refusal(2, 0, out),
-        Answer::NoAtom(bond) => housetext::listing::write_refusal(3, bond, out),
-        Answer::Loop(bond) => housetext::listing::write_refusal(4, bond, out),
-        Answer::Again(bond) => housetext::listing::write_refusal(5, bond, out),
-        Answer::Pieces => housetext::listing::write_refusal(6, 0, out),
-        Answer::FewRows(needed) => housetext::listing::write_refusal(7, needed, out),
-        Answer::FewClassRows(needed) => housetext::listing::write_refusal(8, needed, out),
-        Answer::ManyRings => housetext::listing::write_refusal(9, 0, out),
+        Answer::WrongAtoms => listingtext::write_refusal(1, 0, out),
+        Answer::WrongBytes => listingtext::write_refusal(2, 0, out),
+        Answer::NoAtom(bond) => listingtext::write_refusal(3, bond, out),
+        Answer::Loop(bond) => listingtext::write_refusal(4, bond, out),
+        Answer::Again(bond) => listingtext::write_refusal(5, bond, out),
+        Answer::Pieces => listingtext::write_refusal(6, 0, out),
+        Answer::FewRows(needed) => listingtext::write_refusal(7, needed, out),
+        Answer::FewClassRows(needed) => listingtext::write_refusal(8, needed, out),
+        Answer::ManyRings => listingtext::write_refusal(9, 0, out),
     }
 }
 
@@ -69,7 +68,7 @@ fn list(text: &[u8], out: &mut [u8]) -> usize
     let mut bonds = [0u8; 510];
     let said = housetext::read(text, &mut bonds);
     match said {
-        Text::Departs { line } => housetext::listing::write_refusal(10, line as u64, out),
+        Text::Departs { line } => listingtext::write_refusal(10, line as u64, out),
         Text::Read {
             atoms,
             bonds: count,
@@ -90,8 +89,8 @@ fn list(text: &[u8], out: &mut [u8]) -> usize
     }
 }
 
-// Standard input is read up to 4,096 bytes. A sound text has at most 3,335, and no line is longer than 13, so a longer input departs at
-// the same line as its first 4,096 bytes.
+// Standard input is read up to 4,096 bytes. What `list` promises of these it promises of the whole input: `listed-whole` in
+// proofs/Lines.antt. An input of more than 3,335 bytes departs, at the same line as they do: `reads-long-beginning` of `housetext`.
 fn main() {
     let mut text = io::buffer();
     let n = io::read_full(0, &mut text);

@@ -6,42 +6,43 @@ use Prim.Native.Nat.{ℕ, _+_, _-_, _*_, _/_, _<_, _≤_}
 use native.Mathlib.Nat.{mul-comm, zero-mul, div-lt-iff-lt-mul}
 use native.Mathlib.Omega.{arith}
 use borrow.Author.Tests.{lt-ltb, le-ltb}
+use lib.Dec.{ltb}
 use Rattle.bondset.proofs.Laws.{lt-or-ge, pos-of-ne}
 use Rattle.paths.specs.Counts.{added, counted}
 use Rattle.paths.specs.declared.counting.Count.{Count}
 
 -- A count from its two parts.
-abbrev pub tally : ℕ → Bool → Count
+abbrev pub tally : ℕ → ℕ → Count
 tally rings over = record { rings = rings; over = over }
 
 module _ (max : ℕ) (count : Count) where
   -- There were too many before.
-  pub added-over : (size : ℕ) → count .over ≡ true → tally max true ≡ added max count size
+  pub added-over : (size : ℕ) → (count .over ≡ 0 → ⊥) → tally max 1 ≡ added max count size
   unfolding added
-  added-over size e = rw e
+  added-over size some = rw (lt-ltb 0 (count .over) (pos-of-ne (count .over) some))
 
-  added-if-past : (size : ℕ) → max < count .rings + size → tally max true ≡ added max count size
+  added-if-past : (size : ℕ) → max < count .rings + size → tally max 1 ≡ added max count size
   unfolding added
-  added-if-past size h = rw (lt-ltb max (count .rings + size) h) (either (count .over))
+  added-if-past size h = rw (lt-ltb max (count .rings + size) h) (either (ltb 0 (count .over)))
     where
-      either : (b : Bool) → tally max true ≡ cond (b || true) (tally max true) (tally (count .rings + size) false)
+      either : (b : Bool) → tally max 1 ≡ cond (b || true) (tally max 1) (tally (count .rings + size) 0)
       either true = refl
       either false = refl
 
-  added-if-fits : (size : ℕ) → count .over ≡ false → count .rings + size ≤ max → tally (count .rings + size) false ≡ added max count size
+  added-if-fits : (size : ℕ) → count .over ≡ 0 → count .rings + size ≤ max → tally (count .rings + size) 0 ≡ added max count size
   unfolding added
-  added-if-fits size e h = rw (e, le-ltb max (count .rings + size) h)
+  added-if-fits size e h = rw (le-ltb 0 (count .over) (omega arith), le-ltb max (count .rings + size) h)
 
   module _ (a b : ℕ) (inside : count .rings ≤ max) where
     -- Nothing is added.
-    pub added-nothing : count .over ≡ false → a ≡ 0 → count ≡ added max count (a * b)
+    pub added-nothing : count .over ≡ 0 → a ≡ 0 → count ≡ added max count (a * b)
     added-nothing e z =
         let none : a * b ≡ 0 = ap (λ (x : ℕ). x * b) z ∙ zero-mul b in
         let same : count .rings ≡ count .rings + a * b = omega arith in
         ap₂ tally same e ∙ added-if-fits (a * b) e (omega arith)
 
     -- They do not fit into what is left, by division.
-    pub added-past : (a ≡ 0 → ⊥) → (max - count .rings) / a < b → tally max true ≡ added max count (a * b)
+    pub added-past : (a ≡ 0 → ⊥) → (max - count .rings) / a < b → tally max 1 ≡ added max count (a * b)
     added-past ne h = added-if-past (a * b) (omega (arith, div-lt-iff-lt-mul (pos-of-ne a ne) .0 h, mul-comm a b))
 
     -- They fit, by division.
@@ -51,14 +52,23 @@ module _ (max : ℕ) (count : Count) where
       | inr l ↦ omega (arith, mul-comm a b)
     ]
 
-    pub added-fits : count .over ≡ false → (a ≡ 0 → ⊥) → b ≤ (max - count .rings) / a
-        → tally (count .rings + a * b) false ≡ added max count (a * b)
+    pub added-fits : count .over ≡ 0 → (a ≡ 0 → ⊥) → b ≤ (max - count .rings) / a
+        → tally (count .rings + a * b) 0 ≡ added max count (a * b)
     added-fits e ne h = added-if-fits (a * b) e (product-fits ne h)
 
--- The count starts at no rings.
-pub counted-none : (max : ℕ) → tally 0 false ≡ counted max 0
+-- The flag says whether there are more rings than `max`.
+pub counted-flagged : (max total : ℕ) → max < total → counted max total .over ≡ 1
 unfolding counted
-counted-none max = ap₂ tally (omega arith) (sym (le-ltb max 0 (omega arith)))
+counted-flagged max total h = rw (lt-ltb max total h)
+
+pub counted-not-flagged : (max total : ℕ) → total ≤ max → counted max total .over ≡ 0
+unfolding counted
+counted-not-flagged max total h = rw (le-ltb max total h)
+
+-- The count starts at no rings.
+pub counted-none : (max : ℕ) → tally 0 0 ≡ counted max 0
+unfolding counted
+counted-none max = ap₂ tally (omega arith) (sym (counted-not-flagged max 0 (omega arith)))
 
 -- What was added before, and more.
 pub added-counted : (max total size : ℕ) → added max (counted max total) size ≡ counted max (total + size)
@@ -67,9 +77,9 @@ added-counted max total size = go (lt-or-ge max total) (lt-or-ge max (total + si
   where
     go : (max < total) ⊎ (total ≤ max) → (max < total + size) ⊎ (total + size ≤ max) → added max (counted max total) size ≡ counted max (total + size)
     go (inl l) m =
-        sym (added-over max (counted max total) size (lt-ltb max total l))
-        ∙ ap₂ tally (omega arith) (sym (lt-ltb max (total + size) (omega arith)))
+        sym (added-over max (counted max total) size (λ z. omega (arith, z, counted-flagged max total l)))
+        ∙ ap₂ tally (omega arith) (sym (counted-flagged max (total + size) (omega arith)))
     go (inr l) (inl m) =
-        sym (added-if-past max (counted max total) size (omega arith)) ∙ ap₂ tally (omega arith) (sym (lt-ltb max (total + size) m))
+        sym (added-if-past max (counted max total) size (omega arith)) ∙ ap₂ tally (omega arith) (sym (counted-flagged max (total + size) m))
     go (inr l) (inr m) =
-        sym (added-if-fits max (counted max total) size (le-ltb max total l) (omega arith)) ∙ ap₂ tally (omega arith) (sym (le-ltb max (total + size) m))
+        sym (added-if-fits max (counted max total) size (counted-not-flagged max total l) (omega arith)) ∙ ap₂ tally (omega arith) (sym (counted-not-flagged max (total + size) m))

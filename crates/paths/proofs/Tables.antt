@@ -1,7 +1,8 @@
--- The turns of the loops that fill the table of path counts.
+-- The turns of the loops that count paths: down from an atom that has one way to go, or by a table.
 use mathlib.Core.Path.{_≡_, refl, sym, ap, _∙_}
-use mathlib.Core.List.{List, []}
+use mathlib.Core.List.{List, [], _∷_}
 use Prim.Native.Nat.{ℕ, zero, suc, _+_, _-_, _^_, _<_, _≤_}
+use native.Mathlib.Nat.{zero-add}
 use native.Mathlib.Numerals.{add-one}
 use native.Mathlib.Omega.{arith}
 use native.Mathlib.Decide.{ℕ-discrete}
@@ -44,6 +45,39 @@ module _ (s : ℕ) (some : 0 < s) (word : s < 2 ^ 64) where
 
   others-part : (k : ℕ) → bit (others s) k ≡ 1 → bit s k ≡ 1
   others-part k e = and-has s (s - 1) k .0 e .0
+
+-- ---- counts written atom by atom
+
+-- The counts of the atoms of a set are those of f, but for the atoms that remain.
+abbrev pub Done : (ℕ → ℕ) → ℕ → ℕ → List ℕ → Type 0
+Done f s rest counts = (k : ℕ) → bit s k ≡ 1 → bit rest k ≡ 0 → getD counts k 0 ≡ f k
+
+module _ (f : ℕ → ℕ) (s : ℕ) where
+  pub done-start : (counts : List ℕ) → Done f s s counts
+  done-start counts k b z = absurd (omega arith)
+
+  pub done-end : (rest : ℕ) (counts : List ℕ) → Done f s rest counts → rest ≡ 0 → (k : ℕ) → bit s k ≡ 1 → getD counts k 0 ≡ f k
+  done-end rest counts done e k b = done k b (ap (λ (x : ℕ). bit x k) e ∙ zero-bit k)
+
+  pub done-more : (rest : ℕ) (counts : List ℕ) (v : ℕ) → 0 < rest → rest < 2 ^ 64 → 64 ≤ length counts → Done f s rest counts
+      → v ≡ f (low rest) → Done f s (others rest) (set counts (low rest) v)
+  done-more rest counts v some word room done is k b z = go (ℕ-discrete k (low rest))
+    where
+      go : Dec (k ≡ low rest) → getD (set counts (low rest) v) k 0 ≡ f k
+      go (yes same) = rw same (getD-set-same counts (low rest) v 0 (omega (arith, low-lt rest some word)) ∙ is)
+      go (no ne) = getD-set-other counts (low rest) k v 0 ne ∙ done k b (sym (others-same rest some word k ne) ∙ z)
+
+-- ---- one way to go
+
+-- The paths from an atom with one neighbour in the layer below are those from this neighbour.
+pub ways-lone : (adj layers : List ℕ) (e t : ℕ) → let s = bitAnd (getD adj t 0) (getD layers e 0) in 0 < s → s < 2 ^ 64 → others s ≡ 0
+    → ways (net adj []) layers (suc e) t ≡ ways (net adj []) layers e (low s)
+unfolding ways through
+ways-lone adj layers e t some word none =
+    let s = bitAnd (getD adj t 0) (getD layers e 0) in
+    let one : members 64 s ≡ low s ∷ [] =
+    members-step 64 s some word ∙ ap (λ (x : ℕ). low s ∷ members 64 x) none ∙ ap (λ (l : List ℕ). low s ∷ l) (members-zero 64) in
+    rw one (zero-add _)
 
 -- ---- the sum of the counts of some atoms
 
@@ -96,14 +130,14 @@ pub record Filling (adj layers : List ℕ) (e rest : ℕ) (counts : List ℕ) : 
   pub word : rest < 2 ^ 64
   pub inside : (k : ℕ) → bit rest k ≡ 1 → bit (getD layers (e + 1) 0) k ≡ 1
   pub table : Table adj layers e counts
-  pub done : (k : ℕ) → bit (getD layers (e + 1) 0) k ≡ 1 → bit rest k ≡ 0 → getD counts k 0 ≡ ways (net adj []) layers (e + 1) k
+  pub done : Done (ways (net adj []) layers (e + 1)) (getD layers (e + 1) 0) rest counts
 
 module _ (adj layers : List ℕ) (e : ℕ) (disjoint : Disjoint layers (e + 1)) where
   pub filling-start : (counts : List ℕ) → Table adj layers e counts → Filling adj layers e (getD layers (e + 1) 0) counts
-  filling-start counts table = record { word = disjoint .words (e + 1) (omega arith); inside = λ k b. b; table = table; done = λ k b z. absurd (omega arith) }
+  filling-start counts table = record { word = disjoint .words (e + 1) (omega arith); inside = λ k b. b; table = table; done = done-start _ _ counts }
 
   pub filling-end : (rest : ℕ) (counts : List ℕ) → Filling adj layers e rest counts → rest ≡ 0 → Table adj layers (e + 1) counts
-  filling-end rest counts filling z = record { holds = λ k b. filling .done k b (ap (λ (x : ℕ). bit x k) z ∙ zero-bit k) }
+  filling-end rest counts filling z = record { holds = done-end _ _ rest counts (filling .done) z }
 
   pub filling-more : (rest : ℕ) (counts : List ℕ) (v : ℕ) → 64 ≤ length counts → Filling adj layers e rest counts → 0 < rest
       → v ≡ ways (net adj []) layers (e + 1) (low rest) → Filling adj layers e (others rest) (set counts (low rest) v)
@@ -111,7 +145,7 @@ module _ (adj layers : List ℕ) (e : ℕ) (disjoint : Disjoint layers (e + 1)) 
     word = others-word rest some (filling .word);
     inside = λ k b. filling .inside k (others-part rest some (filling .word) k b);
     table = record { holds = λ k b. getD-set-other counts (low rest) k v 0 (apart k b) ∙ filling .table .holds k b };
-    done = λ k b z. go k b z (ℕ-discrete k (low rest));
+    done = done-more _ _ rest counts v some (filling .word) room (filling .done) is;
   }
     where
       here : bit (getD layers (e + 1) 0) (low rest) ≡ 1
@@ -119,12 +153,6 @@ module _ (adj layers : List ℕ) (e : ℕ) (disjoint : Disjoint layers (e + 1)) 
 
       apart : (k : ℕ) → bit (getD layers e 0) k ≡ 1 → k ≡ low rest → ⊥
       apart k b same = shared-none layers (e + 1) disjoint e (e + 1) k (omega arith) (omega arith) b (rw same here)
-
-      go : (k : ℕ) → bit (getD layers (e + 1) 0) k ≡ 1 → bit (others rest) k ≡ 0 → Dec (k ≡ low rest)
-          → getD (set counts (low rest) v) k 0 ≡ ways (net adj []) layers (e + 1) k
-      go k b z (yes same) = rw same (getD-set-same counts (low rest) v 0 (omega (arith, low-lt rest some (filling .word))) ∙ is)
-      go k b z (no ne) =
-          getD-set-other counts (low rest) k v 0 ne ∙ filling .done k b (sym (others-same rest some (filling .word) k ne) ∙ z)
 
 -- ---- all layers
 
@@ -137,10 +165,10 @@ module _ (adj layers : List ℕ) (d : ℕ) (disjoint : Disjoint layers d) where
   pub layer-lt : (t : ℕ) → bit (getD layers d 0) t ≡ 1 → t < 64
   layer-lt t = lt-of-has 64 (getD layers d 0) t (disjoint .words d (omega arith))
 
-  -- One path leads from the top to the top.
-  pub table-start : (counts : List ℕ) → ((t : ℕ) → t < 64 → getD counts t 0 ≡ 1) → Table adj layers 0 counts
-  unfolding ways
-  table-start counts ones = record { holds = λ t b. ones t (lt-of-has 64 (getD layers 0 0) t (disjoint .words 0 (omega arith)) b) }
+-- One path leads from the top to the top.
+pub table-start : (adj layers counts : List ℕ) → ((t : ℕ) → bit (getD layers 0 0) t ≡ 1 → getD counts t 0 ≡ 1) → Table adj layers 0 counts
+unfolding ways
+table-start adj layers counts ones = record { holds = ones }
 
 pub table-end : (adj layers : List ℕ) (e d : ℕ) (counts : List ℕ) → Table adj layers e counts → e ≡ d
     → (t : ℕ) → bit (getD layers d 0) t ≡ 1 → getD counts t 0 ≡ ways (net adj []) layers d t

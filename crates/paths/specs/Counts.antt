@@ -1,6 +1,6 @@
 -- Counting paths layer by layer, and a running count of rings that keeps within a word.
 use mathlib.Core.Path.{_≡_}
-use mathlib.Core.Bool.{true, false, cond, _||_}
+use mathlib.Core.Bool.{cond, _||_}
 use mathlib.Core.List.{List, []}
 use Prim.Native.Nat.{ℕ, _+_, _^_, _<_, _≤_, min}
 use lib.Bits.{bitAnd}
@@ -35,8 +35,8 @@ pub record Counted (adj layers : List ℕ) (d p q : ℕ) (counts : PathCounts) :
 -- The count with so many rings more: at `max`, and flagged, once there are more than `max`.
 unfoldable pub added : ℕ → Count → ℕ → Count
 added max count size =
-    cond (count .over || ltb max (count .rings + size)) (record { rings = max; over = true }) (record { rings = count .rings + size; over = false })
+    cond (ltb 0 (count .over) || ltb max (count .rings + size)) (record { rings = max; over = 1 }) (record { rings = count .rings + size; over = 0 })
 
 -- What the count says of so many rings: their number up to `max`, and whether there are more.
 unfoldable pub counted : ℕ → ℕ → Count
-counted max total = record { rings = min max total; over = ltb max total }
+counted max total = record { rings = min max total; over = cond (ltb max total) 1 0 }

@@ -1,5 +1,6 @@
 //! The number of paths from an atom to the top, and the number of rings.
 ghost use mathlib.Core.Path.{_≡_};
+ghost use mathlib.Core.Bool.{true};
 ghost use mathlib.Core.List.{[]};
 ghost use Prim.Native.Nat.{ℕ, _+_, _*_, _-_, _^_, _<_, _≤_};
 ghost use lib.ListN.{length, getD};
@@ -16,13 +17,38 @@ pub struct PathCounts {
     pub from_q: u64,
 }
 
-/// Writes 1 into the first 64 counts: from the top one path leads to the top.
-fn ones(counts: &mut [u64])
-    requires { ⌜ 64 ≤ length (now counts) ⌝ }
-    ensures { λ _. ⌜ ((t : ℕ) → t < 64 → getD (now (counts .exit)) t 0 ≡ 1) ⌝ }
+/// Whether one path alone leads to the top from atom `t` of layer `d`, as it does where each step down has one way to go.
+fn lone(adj: &[u64], layers: &[u64], d: usize, t: usize) -> bool
+    requires { ⌜ t < 64 ⌝ }
+    requires { ⌜ 64 ≤ length (now adj) ⌝ }
+    requires { ⌜ d ≤ length (now layers) ⌝ }
+    ensures { λ r. ⌜ (r ≡ true → ways (net (now (adj .entry)) []) (now (layers .entry)) d t ≡ 1) ⌝ }
 {
-    for i in 0usize..64 {
-        counts[i] = 1;
+    let mut i = d;
+    let mut a = t;
+    while i > 0 {
+        i -= 1;
+        let down = adj[a] & layers[i];
+        if down == 0 {
+            return false;
+        }
+        if down & (down - 1) != 0 {
+            return false;
+        }
+        a = u64::trailing_zeros(down) as usize;
+    }
+    true
+}
+
+/// Writes 1 as the count of each atom of the set: from the top one path leads to the top.
+fn ones(counts: &mut [u64], s: u64)
+    requires { ⌜ 64 ≤ length (now counts) ⌝ }
+    ensures { λ _. ⌜ ((t : ℕ) → bit s t ≡ 1 → getD (now (counts .exit)) t 0 ≡ 1) ⌝ }
+{
+    let mut rest = s;
+    while rest != 0 {
+        counts[u64::trailing_zeros(rest) as usize] = 1;
+        rest = rest & (rest - 1);
     }
 }
 
@@ -62,7 +88,31 @@ fn fill(adj: &[u64], layers: &[u64], counts: &mut [u64], e: usize)
 }
 
 /// How many paths lead to the top from `p` and from `q`, both of layer `d`: the counts of each layer from those of the layer before.
-/// `counts` is room to work in.
+fn tabled(
+    adj: &[u64],
+    layers: &[u64],
+    counts: &mut [u64],
+    d: usize,
+    p: usize,
+    q: usize,
+) -> PathCounts
+    requires { ⌜ Sized (now adj) (now layers) (now counts) d ⌝ }
+    requires { ⌜ Disjoint (now layers) d ⌝ }
+    requires { ⌜ bit (getD (now layers) d 0) p ≡ 1 ⌝ }
+    requires { ⌜ bit (getD (now layers) d 0) q ≡ 1 ⌝ }
+    ensures { λ r. ⌜ Counted (now (adj .entry)) (now (layers .entry)) d p q r ⌝ }
+{
+    ones(counts, layers[0]);
+    for e in 0..d {
+        fill(adj, layers, counts, e);
+    }
+    PathCounts {
+        from_p: counts[p],
+        from_q: counts[q],
+    }
+}
+
+/// How many paths lead to the top from `p` and from `q`, both of layer `d`: one each, most often, and else by a table for which `counts` is room.
 pub fn ways(
     adj: &[u64],
     layers: &[u64],
@@ -77,22 +127,23 @@ pub fn ways(
     requires { ⌜ bit (getD (now layers) d 0) q ≡ 1 ⌝ }
     ensures { λ r. ⌜ Counted (now (adj .entry)) (now (layers .entry)) d p q r ⌝ }
 {
-    ones(counts);
-    for e in 0..d {
-        fill(adj, layers, counts, e);
+    if lone(adj, layers, d, p) {
+        if lone(adj, layers, d, q) {
+            return PathCounts {
+                from_p: 1,
+                from_q: 1,
+            };
+        }
     }
-    PathCounts {
-        from_p: counts[p],
-        from_q: counts[q],
-    }
+    tabled(adj, layers, counts, d, p, q)
 }
 
 /// A number of rings that keeps within a word.
 pub struct Count {
     /// The number of rings, or the largest word if there are more.
     pub rings: u64,
-    /// Whether there are more rings than a word can say.
-    pub over: bool,
+    /// 1 if there are more rings than a word can say, else 0; a word, so that no byte of the struct is a gap to copy around.
+    pub over: u64,
 }
 
 /// The count with `a` times `b` rings more.
@@ -101,9 +152,9 @@ pub fn add(count: Count, a: u64, b: u64) -> Count
 {
     let full = Count {
         rings: 18446744073709551615,
-        over: true,
+        over: 1,
     };
-    if count.over {
+    if count.over != 0 {
         return full;
     }
     if a == 0 {
@@ -114,6 +165,6 @@ pub fn add(count: Count, a: u64, b: u64) -> Count
     }
     Count {
         rings: count.rings + a * b,
-        over: false,
+        over: 0,
     }
 }

@@ -1,11 +1,9 @@
 -- The claim of a call from what the engine found and what was delivered.
 use mathlib.Core.Path.{_≡_, refl, sym, ap, _∙_, subst}
-use mathlib.Core.Bool.{true, false}
 use mathlib.Core.Logic.{inl, inr}
 use mathlib.Core.List.{List, [], _∷_}
 use Prim.Native.Nat.{ℕ, zero, suc, _+_, _*_, _/_, _<_, _≤_}
 use native.Mathlib.Omega.{arith}
-use borrow.Author.Tests.{ltb-true, ltb-false}
 use lib.ListN.{length, getD, replicate, length-replicate}
 use lib.Seq.{paste}
 use Rattle.bondset.proofs.Laws.{lt-or-ge}
@@ -19,23 +17,30 @@ use Rattle.model.specs.Run.{report, reportBy}
 use Rattle.model.proofs.Meets.{report-accepted}
 use Rattle.paths.specs.declared.counting.Count.{Count}
 use Rattle.paths.specs.Counts.{counted}
+use Rattle.paths.proofs.Added.{counted-flagged, counted-not-flagged}
 use Rattle.compound.specs.Nets.{compound}
-use Rattle.rings.specs.declared.Going.{Going}
+use Rattle.engine.specs.declared.Going.{Going}
 use Rattle.rings.specs.declared.Answer.{Answer}
 use Rattle.rings.specs.declared.Answer.the-variants.{Full, FewRows, FewClassRows, ManyRings}
-use Rattle.rings.specs.Calls.{told, RefusedBy, Reports, Fitting, Delivered, Answers}
-use Rattle.rings.proofs.Copying.{paste-over, getD-past}
+use Rattle.engine.specs.Reports.{Reports}
+use Rattle.rings.specs.Calls.{told, RefusedBy, Fitting, Delivered, Answers}
+use Rattle.engine.proofs.Reporting.{getD-past}
+use Rattle.rings.proofs.Copying.{paste-over}
 
 -- ---- the number of rings
 
 -- There are more rings than can be told.
-pub counted-over : (count : Count) (total : ℕ) → count ≡ counted most total → count .over ≡ true → most < total
-unfolding counted
-counted-over count total e over = ltb-true most total (sym (ap (λ (k : Count). k .over) e) ∙ over)
+pub counted-over : (count : Count) (total : ℕ) → count ≡ counted most total → (count .over ≡ 0 → ⊥) → most < total
+counted-over count total e over = elim (lt-or-ge most total) [
+  | inl l ↦ l
+  | inr l ↦ absurd (over (ap (λ (k : Count). k .over) e ∙ counted-not-flagged most total l))
+]
 
-counted-within : (count : Count) (total : ℕ) → count ≡ counted most total → count .over ≡ false → total ≤ most
-unfolding counted
-counted-within count total e over = ltb-false most total (sym (ap (λ (k : Count). k .over) e) ∙ over)
+counted-within : (count : Count) (total : ℕ) → count ≡ counted most total → count .over ≡ 0 → total ≤ most
+counted-within count total e over = elim (lt-or-ge most total) [
+  | inl l ↦ absurd (omega (arith, over, ap (λ (k : Count). k .over) e, counted-flagged most total l))
+  | inr l ↦ l
+]
 
 counted-rings : (count : Count) (total : ℕ) → count ≡ counted most total → total ≤ most → count .rings ≡ total
 unfolding counted
@@ -44,7 +49,7 @@ counted-rings count total e within = ap (λ (k : Count). k .rings) e ∙ omega a
 -- None of 7 to 9 holds.
 pub fitting : {c : Compound} {from : ℕ} {out table few out′ table′ few′ rows classRows : List ℕ} {got : Going}
     → Reports c from out table few got out′ table′ few′
-    → got .tally .families ≤ familyRoom rows → got .tally .classes ≤ classRoom classRows → got .rings .over ≡ false → Fitting c rows classRows
+    → got .tally .families ≤ familyRoom rows → got .tally .classes ≤ classRoom classRows → got .rings .over ≡ 0 → Fitting c rows classRows
 fitting {c} {got = got} reports f k within =
     record {
       families = omega (arith, reports .families);

@@ -1,7 +1,7 @@
 -- Loops that fill a buffer, turn by turn.
-use mathlib.Core.Path.{_≡_, refl, sym, ap, _∙_}
-use mathlib.Core.List.{List, [], _∷_, _++_, append-nil}
-use Prim.Native.Nat.{ℕ, zero, suc, _+_, _<_, _≤_}
+use mathlib.Core.Path.{_≡_, sym, ap, _∙_}
+use mathlib.Core.List.{List, _++_, append-nil}
+use Prim.Native.Nat.{ℕ, _+_, _<_, _≤_}
 use mathlib.Core.Logic.{inl, inr}
 use native.Mathlib.Nat.{zero-add}
 use native.Mathlib.Numerals.{add-one}
@@ -23,12 +23,6 @@ paste-next d e s i b copied h l is =
 pub paste-over : (bytes lent d : List ℕ) (n : ℕ) → length bytes ≡ n → paste d 0 (over bytes lent) n ≡ over bytes d
 unfolding over
 paste-over bytes lent d n e = rw (take-at bytes (drop (length bytes) lent) n e, zero-add n, e)
-
--- Past the end of a list there is nothing.
-pub getD-past : (xs : List ℕ) (j : ℕ) → length xs ≤ j → getD xs j 0 ≡ 0
-getD-past [] j h = refl
-getD-past (x ∷ xs) zero h = absurd (omega arith)
-getD-past (x ∷ xs) (suc j) h = getD-past xs j (omega arith)
 
 -- What has been filled with 0 to the end.
 pub filled-all : (d e : List ℕ) (n : ℕ) → e ≡ replicate n 0 ++ drop n d → n ≡ length d → e ≡ replicate (length d) 0

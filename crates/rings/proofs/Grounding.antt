@@ -2,19 +2,17 @@
 use mathlib.Core.Path.{_≡_, refl, sym, ap, _∙_, subst}
 use mathlib.Core.Bool.{Bool, true, false, not}
 use mathlib.Core.List.{List}
-use Prim.Native.Nat.{ℕ, _+_, _-_, _%_, _^_, _<_, _≤_}
+use Prim.Native.Nat.{ℕ, _-_, _%_, _^_, _<_, _≤_}
 use native.Mathlib.Omega.{arith}
 use borrow.Author.Tests.{le-ltb, ne-eqb}
 use lib.Dec.{eqb}
 use lib.ListN.{length}
 use Rattle.cycles.specs.Compound.{Compound, m}
-use Rattle.cycles.specs.Refusal.{WrongAtoms, WrongBytes, Refused, Accepted}
-use Rattle.cycles.proofs.Dimension.{closed-basis, dimension-one-piece-sum}
+use Rattle.cycles.specs.Refusal.{WrongAtoms, WrongBytes, Refused}
 use Rattle.model.specs.Fault.{Fault, none, fault, orElse, when, firstOf, bondFault, reached, pieceFault, sizeFault, firstFault}
 use Rattle.model.specs.Layer.{wave}
 use Rattle.model.specs.Net.{adjOf, touchOf}
 use Rattle.model.proofs.Faults.{fault-refused, none-accepted}
-use Rattle.model.proofs.Meets.{accepted-ready}
 use Rattle.compound.specs.Nets.{neighbours}
 use Rattle.compound.specs.Reading.{faultOf, bondsRead, Reading}
 use Rattle.compound.specs.declared.Read.{Read}
@@ -24,7 +22,8 @@ use Rattle.rings.specs.declared.Answer.{Answer}
 use Rattle.rings.specs.declared.Answer.the-variants as answer
 use Rattle.rings.specs.declared.call.Ground.{Ground}
 use Rattle.rings.specs.declared.call.Ground.the-variants as ground
-use Rattle.rings.specs.Calls.{told, RefusedBy, Stands, Grounded, standing, refusing}
+use Rattle.engine.specs.Reports.{Stands}
+use Rattle.rings.specs.Calls.{told, RefusedBy, Grounded, standing, refusing}
 
 module _ (c : Compound) where
   -- Neither 1 nor 2 holds.
@@ -107,17 +106,6 @@ module _ (c : Compound) where
         unfolding when
         stands e a t =
             record { accepted = none-accepted c .0 (seen true e); neighbours = read-all; bonds = touched-all; adjLong = a; touchLong = t }
-
-  -- An accepted compound has 64 atoms at most.
-  pub accepted-atoms : Accepted c → c .n ≤ 64
-  accepted-atoms accepted = accepted-ready c accepted .atoms
-
-  -- An accepted compound has bonds enough to hang together.
-  pub accepted-bonds : Accepted c → c .n ≤ m c + 1
-  accepted-bonds accepted =
-      let ready = accepted-ready c accepted in
-      let basis = closed-basis c (ready .sound) in
-      omega (arith, dimension-one-piece-sum c (ready .sound) (ready .one-piece) (ready .some) (basis .0) (basis .1))
 
   module _ {adj touch : List ℕ} where
     -- A refused input is refused rightly.

@@ -1,14 +1,4 @@
-pub mod Laid
-pub mod Keeps
-pub mod Sizes
-pub mod Steps
-pub mod Rows
-pub mod Report
-pub mod CandidatesKept
-pub mod CandidatesLoop
-pub mod Tried
 pub mod Copying
 pub mod Grounding
-pub mod Reporting
 pub mod Answering
 pub mod Unique

@@ -1,13 +1,14 @@
 //! One call: the input is refused, or the engine runs and what it found is refused or delivered.
 ghost use mathlib.Core.Path.{_≡_};
-ghost use Prim.Native.Nat.{ℕ, _+_, _-_, _/_, _<_, _≤_, min};
+ghost use Prim.Native.Nat.{ℕ, _-_, _/_, _<_, _≤_, min};
 ghost use lib.ListN.{length, getD, replicate};
 ghost use lib.Seq.{paste};
 ghost use Rattle.compound.specs.Nets.{compound};
-ghost use Rattle.rings.specs.Calls.{Stands, Grounded, Reports, Fitting, Delivered, Answers};
+ghost use Rattle.engine.specs.Reports.{Stands, Reports};
+ghost use Rattle.rings.specs.Calls.{Grounded, Fitting, Delivered, Answers};
 use crate::Answer;
-use crate::Going;
 use compound::Read;
+use engine::Going;
 
 /// Whether an input is a compound that the engine works on.
 pub enum Ground {
@@ -53,35 +54,6 @@ fn admit(n: usize, bonds: &[u8], adj: &mut [u64], touch: &mut [u64]) -> Ground
             return Ground::Refused(Answer::Pieces);
         }
     }
-}
-
-/// The cyclomatic number, of a compound in one piece.
-fn cyclomatic(n: usize, bonds: &[u8]) -> usize
-    requires { ⌜ n ≤ length (now bonds) / 2 + 1 ⌝ }
-    ensures { λ r. ⌜ r ≡ length (now (bonds .entry)) / 2 + 1 - n ⌝ }
-{
-    bonds.len() / 2 + 1 - n
-}
-
-/// Runs the engine on a compound: as many rows as there is room for go into `out` and `table`, and the sizes of the families
-/// from row `from` on into `sizes`.
-fn report(
-    n: usize,
-    bonds: &[u8],
-    adj: &[u64],
-    touch: &[u64],
-    from: usize,
-    out: &mut [u8],
-    table: &mut [u8],
-    sizes: &mut [u64],
-) -> Going
-    requires { ⌜ Stands (compound n (now bonds)) (now adj) (now touch) ⌝ }
-    ensures { λ r. ⌜ Reports (compound n (now (bonds .entry))) from (now (out .entry)) (now (table .entry)) (now (sizes .entry))
-        r (now (out .exit)) (now (table .exit)) (now (sizes .exit)) ⌝ }
-{
-    let full = cyclomatic(n, bonds);
-    let tops = compound::tops(n, adj);
-    crate::lengths::run(n, adj, touch, tops, full, from, out, table, sizes)
 }
 
 /// Copies the first `count` bytes of `bytes` to the start of `to`.
@@ -155,7 +127,7 @@ fn deliver(
         }
     }
     clear(sizes);
-    report(n, bonds, adj, touch, from, family_rows, class_rows, sizes);
+    engine::report(n, bonds, adj, touch, from, family_rows, class_rows, sizes);
 }
 
 /// How many family rows fit so many bytes.
@@ -187,7 +159,7 @@ fn accepted(
     let mut rows = [0u8; 128];
     let mut classes = [0u8; 40];
     let mut few = [0u64; 16];
-    let got = report(
+    let got = engine::report(
         n,
         bonds,
         adj,
@@ -206,7 +178,7 @@ fn accepted(
         return Answer::FewClassRows(found as u64);
     }
     let rings = got.rings;
-    if rings.over {
+    if rings.over != 0 {
         return Answer::ManyRings;
     }
     deliver(
@@ -223,7 +195,7 @@ fn accepted(
         class_rows,
         sizes,
     );
-    let full = cyclomatic(n, bonds);
+    let full = engine::cyclomatic(n, bonds);
     Answer::Full {
         cyclomatic: full as u64,
         families: families as u64,

@@ -1,27 +1,15 @@
-//! The engine: one compound in, its ring families, one minimum cycle basis and the classes of its rings out, or one
+//! The calls: one compound in, its ring families, one minimum cycle basis and the classes of its rings out, or one
 //! numbered refusal.
 //!
-//! All loops run over lent arrays; nothing is allocated. The loops over lengths, top atoms and candidates compute exactly
-//! what the definitions of `specs/Engine.antt` say.
+//! A call asks nothing of its caller. It promises the relation `Answered`, which leaves one answer and one content of the
+//! lent buffers for each input; a refused call has not been handed them when the refusal is decided.
 ghost use mathlib.Core.Path.{_≡_};
 ghost use Prim.Native.Nat.{ℕ, _<_};
 ghost use lib.ListN.{length, getD};
 ghost use Rattle.answers.specs.Answered.{refused, Answered};
 ghost use Rattle.rings.specs.Calls.{told};
-use ledger::Tally;
-use paths::counting::Count;
 
 mod call;
-pub mod candidates;
-pub mod lengths;
-
-/// What has been counted so far, and the number of rings.
-pub struct Going {
-    /// Marked rings, families, classes and the total length.
-    pub tally: Tally,
-    /// The number of rings.
-    pub rings: Count,
-}
 
 /// What a call answers: five numbers, or a refusal with what it names.
 pub enum Answer {

@@ -10,8 +10,8 @@ use Rattle.spans.specs.Basis.{Part, All, Sum, Basis}
 use Rattle.spans.specs.Graded.{keep-if, total, below, Minimum}
 use Rattle.spans.proofs.Xor.{xor}
 use Rattle.spans.proofs.Lists.{all-head, all-tail, part-all, part-append, all-map, all-and, all-append, all-left, all-right, all-perm}
-use Rattle.spans.proofs.Lists.{Perm, perm-sym, perm-front, perm-left, perm-blocks, Pick, all-pick}
-use Rattle.spans.proofs.Span.{Span, at, add, sum-in, through, own, own-part, left-of, right-of}
+use Rattle.spans.proofs.Lists.{Perm, perm-sym, perm-front, perm-left, perm-right, perm-blocks, Pick, pick-perm, all-pick}
+use Rattle.spans.proofs.Span.{Span, at, add, sum-in, through, own, own-part, left-of, right-of, span-perm, uses}
 use Rattle.spans.proofs.Indep.{Indep, indep-fresh, span-over, indep-over, first, indep-part, indep-perm, indep-right, Extended, extend}
 use Rattle.spans.proofs.Steinitz.{steinitz, spanned}
 use Rattle.spans.proofs.Interchange.{Swap, swap-used, swap-up-to}
@@ -115,6 +115,26 @@ module _ {X : Type 0} (G : Space X) (ℓ : X → ℕ) (W : X → Type 0) where
   pub minimum-swap : {x y : X} {R : List X} → Minimum G ℓ W (y ∷ R) → W x → ℓ x ≤ ℓ y → Span G R (x ⊕ y) → Minimum G ℓ W (x ∷ R)
   unfolding total
   minimum-swap m w h s = record { basis = basis-swap G W (m .basis) w s; least = λ C c. omega (arith, m .least C c) }
+
+  -- A relevant element that is a sum of members of a minimum basis can stand in the place of one of these.
+  pub summed-replaces : {P : X → Type 0} {x : X} (front rest : List X)
+      → Minimum G ℓ W (front ++ rest) → Relevant G ℓ W x → Span G front x → All P front → (y : X) × P y × Replaces y x
+  summed-replaces {x} front rest m r s a =
+      let d = split ℓ (ℓ x) front in
+      let l = split-long ℓ d in
+      let low = below ℓ (ℓ x) front in
+      let short = all-and (part-all (split-part ℓ d) (all-left front rest (m .basis .inside))) (split-low ℓ d) in
+      let u = uses G (l .long) low x (span-perm G (l .perm) s) (λ t. r .alone (span-short G ℓ W short t)) in
+      let n = minimum-perm G ℓ W (perm-right rest (Perm.trans (l .perm) (pick-perm low (u .pick)))) m in (
+        u .one,
+        all-pick (u .pick) (all-left (l .long) low (all-perm (l .perm) a)),
+        record {
+          before = [];
+          after = (u .others ++ low) ++ rest;
+          holds = n;
+          replaced = minimum-swap n (r .inside) (omega (arith, all-pick (u .pick) (l .high))) (left-of G rest (u .remains));
+        },
+      )
 
   -- What stands behind the elements of length j or more of a minimum basis spans the sums of elements shorter than j.
   tail-spans-short : {j : ℕ} {B T : List X} (long : List X) → Minimum G ℓ W B → Perm B (long ++ T)

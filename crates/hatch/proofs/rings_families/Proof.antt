@@ -1,8 +1,6 @@
 -- The engine's claim for every row number, read from the reply.
-use mathlib.Core.Path.{sym, ap, _∙_}
 use borrow.Author.Needs.{needs}
-use Rattle.hatch.specs.Replies.{replyOf}
-use Rattle.hatch.proofs.Telling.{withSize-made, answered-as}
+use Rattle.hatch.proofs.Telling.{families-told}
 use Rattle.hatch.proofs.rings_families.Statement.{statement}
 use Rattle.hatch.proofs.rings_families.Tie as tie
 
@@ -20,12 +18,8 @@ same-length-2 c = search needs
 
 returns : tie.Need-returns
 returns c =
-    let made = c .replied .ensures in
     let f = c .before .before .before .before .before .families in
-    let tells = withSize-made (f .result) 0 made in (
-      λ i. (f .ensures i .0, answered-as (tells (f .ensures i .0)) (f .ensures i .1)),
-      made ∙ ap replyOf (sym (tells 0)),
-    )
+    families-told (f .result) (c .replied .ensures) (f .ensures)
 
 pub rings-families-spec : {M : Type 1} → statement M
 rings-families-spec =

@@ -1,8 +1,6 @@
 -- The engine's claim with the size, read from the reply.
-use mathlib.Core.Path.{sym, ap, _∙_}
 use borrow.Author.Needs.{needs}
-use Rattle.hatch.specs.Replies.{replyOf}
-use Rattle.hatch.proofs.Telling.{toldBy-made, answered-as}
+use Rattle.hatch.proofs.Telling.{size-told}
 use Rattle.hatch.proofs.rings_family_size.Statement.{statement}
 use Rattle.hatch.proofs.rings_family_size.Tie as tie
 
@@ -20,10 +18,8 @@ same-length-2 c = search needs
 
 returns : tie.Need-returns
 returns c =
-    let made = c .replied .ensures in
     let f = c .before .before .before .before .before .family-size in
-    let tells = toldBy-made (f .result .answer) (f .result .size) made in
-    (answered-as tells (f .ensures .0), made ∙ ap replyOf (sym tells))
+    size-told (f .result .answer) (f .result .size) (c .replied .ensures) (f .ensures .0)
 
 pub rings-family-size-spec : {M : Type 1} → statement M
 rings-family-size-spec =

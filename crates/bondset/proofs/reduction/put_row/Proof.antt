@@ -6,42 +6,31 @@ use Rattle.bondset.specs.Sets.{value}
 use Rattle.bondset.proofs.ReductionModel.{put-words}
 use Rattle.bondset.proofs.reduction.put_row.Statement.{statement}
 use Rattle.bondset.proofs.reduction.put_row.Tie as tie
-use Rattle.bondset.proofs.reduction.put_row.Reads as reads
-use Rattle.bondset.proofs.reduction.put_row.Lts as lts
 
--- src/reduction.rt:35:10
 mul-rows : tie.Need-mul-rows
 mul-rows c = search needs
 
--- src/reduction.rt:35:5
 mul-rows-2 : tie.Need-mul-rows-2
 mul-rows-2 c = search needs
 
--- src/reduction.rt:35:5
 slice-write-rows : tie.Need-slice-write-rows
 slice-write-rows c = search needs
 
--- src/reduction.rt:36:10
 mul-rows-3 : tie.Need-mul-rows-3
 mul-rows-3 c = search needs
 
--- src/reduction.rt:36:10
 add-rows : tie.Need-add-rows
 add-rows c = search needs
 
--- src/reduction.rt:36:5
 mul-rows-4 : tie.Need-mul-rows-4
 mul-rows-4 c = search needs
 
--- src/reduction.rt:36:5
 slice-write-rows-2 : tie.Need-slice-write-rows-2
 slice-write-rows-2 c = simp length-set (omega arith)
 
--- src/reduction.rt:31:1
 same-length : tie.Need-same-length
 same-length c = search needs
 
--- src/reduction.rt:31:1
 returns : tie.Need-returns
 returns c =
     let a = c .args in

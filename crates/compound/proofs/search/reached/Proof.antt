@@ -1,9 +1,9 @@
 -- The search after d steps; one whose front is empty has seen all that it will see.
 use mathlib.Core.Path.{_≡_, refl, sym, ap, ap₂, _∙_}
-use Prim.Native.Nat.{ℕ, _+_, _-_, _^_, _≤_, _<_}
+use Prim.Native.Nat.{ℕ, _+_, _-_, _≤_}
 use native.Mathlib.Numerals.{add-one}
 use native.Mathlib.Omega.{arith}
-use lib.Bits.{bitAnd, and-le-l, or-lt}
+use lib.Bits.{bitAnd, and-le-l}
 use borrow.Author.Needs.{needs}
 use Rattle.model.specs.Net.{near}
 use Rattle.model.specs.Layer.{spread, wave}
@@ -14,20 +14,20 @@ use Rattle.compound.proofs.search.reached.Tie as tie
 
 abbrev Inv-loop : tie.InvT-loop
 Inv-loop n adj seen₀ front₀ d₀ seen front d =
-    (d ≤ n) × (seen < 2 ^ 64) × (seen ≡ (wave (neighbours adj) 0 0 d) .seen) × (front ≡ (wave (neighbours adj) 0 0 d) .front)
+    (d ≤ n) × (seen ≡ (wave (neighbours adj) 0 0 d) .seen) × (front ≡ (wave (neighbours adj) 0 0 d) .front)
 
 abbrev μ-loop : tie.MeasureT-loop
 μ-loop n adj seen₀ front₀ d₀ seen front d = n - d
 
 loop-holds : tie.Need-loop-holds Inv-loop μ-loop
 unfolding wave
-loop-holds c = (omega arith, omega arith, refl, refl)
+loop-holds c = (omega arith, refl, refl)
 
 returns : tie.Need-returns Inv-loop μ-loop
 returns c =
     let l = c .before .before .loop in
     let a = c .before .before .before .before .args in
-    l .inv .2 ∙ seen-done (neighbours (a .adj .now)) 0 0 (l .d) (a .n) (omega arith) (sym (l .inv .3) ∙ c .if1 .taken)
+    l .inv .1 ∙ seen-done (neighbours (a .adj .now)) 0 0 (l .d) (a .n) (omega arith) (sym (l .inv .2) ∙ c .if1 .taken)
 
 near-requires : tie.Need-near-requires Inv-loop μ-loop
 near-requires c κs = search needs
@@ -47,13 +47,11 @@ loop-again c =
     let l = c .before .before .before .loop in
     let a = c .before .before .before .before .before .args in
     let reach = c .near .result in
-    let small : reach < 2 ^ 64 = omega (arith, c .near .ok) in
     let same : reach ≡ near (neighbours (a .adj .now)) ((wave (neighbours (a .adj .now)) 0 0 (l .d)) .front) =
-    c .near .ensures ∙ ap (near (neighbours (a .adj .now))) (l .inv .3) in
-    let front = ap₂ (λ (x y : ℕ). x - bitAnd x y) same (l .inv .2) in (
+    c .near .ensures ∙ ap (near (neighbours (a .adj .now))) (l .inv .2) in
+    let front = ap₂ (λ (x y : ℕ). x - bitAnd x y) same (l .inv .1) in (
       omega (arith, c .before .before .loop-test .taken),
-      or-lt 64 (l .seen) (reach - bitAnd reach (l .seen)) (l .inv .1) (omega arith),
-      rw add-one (or-without (l .seen) reach (l .inv .1) small ∙ ap₂ (λ (x y : ℕ). x + y) (l .inv .2) front),
+      rw add-one (or-without (l .seen) reach ∙ ap₂ (λ (x y : ℕ). x + y) (l .inv .1) front),
       rw add-one front,
     )
 
@@ -62,7 +60,7 @@ returns-2 c =
     let l = c .before .loop in
     let a = c .before .before .before .args in
     let e : l .d ≡ a .n = omega arith in
-    l .inv .2 ∙ ap (λ (d : ℕ). (wave (neighbours (a .adj .now)) 0 0 d) .seen) e
+    l .inv .1 ∙ ap (λ (d : ℕ). (wave (neighbours (a .adj .now)) 0 0 d) .seen) e
 
 pub reached-spec : {M : Type 1} → statement M
 reached-spec =

@@ -1,15 +1,16 @@
 -- The loop's invariant: what is left of the rings takes the labels to what they are in the end.
-use mathlib.Core.Path.{_≡_, refl, ap, _∙_, subst}
-use Prim.Native.Nat.{ℕ, _-_, _≤_, _<_}
+use mathlib.Core.Path.{_≡_, refl, ap, _∙_}
+use Prim.Native.Nat.{_-_, _≤_}
 use native.Mathlib.Omega.{arith}
 use lib.Count.{trailingZeros}
 use lib.ListN.{length}
 use borrow.Author.Needs.{needs}
-use Rattle.bondset.specs.Sets.{value, lengthTo}
+use Rattle.bondset.specs.Sets.{value}
+use Rattle.bondset.proofs.Laws.{words-lt}
 use Rattle.model.specs.Fold.{through, count}
 use Rattle.model.specs.State.{relabel, joined}
 use Rattle.ledger.proofs.Turns.{turn, turned}
-use Rattle.ledger.proofs.Below.{joined-same}
+use Rattle.ledger.proofs.Below.{joined-alike}
 use Rattle.ledger.proofs.labels.join.Statement.{statement}
 use Rattle.ledger.proofs.labels.join.Tie as tie
 
@@ -22,21 +23,21 @@ Inv-loop labels₀ from to w j₀ labels j =
 abbrev μ-loop : tie.MeasureT-loop
 μ-loop labels₀ from to w j₀ labels j = to - j
 
-labels-in-requires : tie.Need-labels-in-requires Inv-loop μ-loop
-labels-in-requires c κs = search needs
-
-length-requires : tie.Need-length-requires Inv-loop μ-loop
-length-requires c κs = tt
+alike-requires : tie.Need-alike-requires Inv-loop μ-loop
+alike-requires c κs = search needs
 
 same-length : tie.Need-same-length Inv-loop μ-loop
 same-length c = refl
 
 returns : tie.Need-returns Inv-loop μ-loop
 returns c =
-    let e = c .before .before .before .before .before in
+    let e = c .before .before .before .before in
     let a = e .args in
-    joined-same (a .from) (a .to) (value (a .t)) (a .labels .now) (e .pre .1)
-    (subst (λ (n : ℕ). n < 2) (c .before .length .ensures ∙ ap (lengthTo 128) (c .before .before .labels-in .ensures)) (c .if1 .taken))
+    joined-alike (a .from) (a .to) (value (a .t)) (a .labels .now) (e .pre .1) (words-lt 64 (a .t .hi) (a .t .lo) (omega arith) (omega arith))
+    (c .before .alike .ensures (c .if1 .taken))
+
+labels-in-requires : tie.Need-labels-in-requires Inv-loop μ-loop
+labels-in-requires c κs = search needs
 
 loop-holds : tie.Need-loop-holds Inv-loop μ-loop
 loop-holds c = (omega arith, refl, refl)
@@ -61,10 +62,10 @@ same-length-2 c = search needs
 returns-2 : tie.Need-returns-2 Inv-loop μ-loop
 unfolding joined
 returns-2 c =
-    let a = c .before .before .before .before .before .before .before .args in
+    let a = c .before .before .before .before .before .before .before .before .args in
     let l = c .before .loop in
     turned _ (l .j) (a .to) (l .labels) _ (omega arith) (l .inv .2)
-    ∙ ap (λ w. through (relabel w (trailingZeros 128 w)) (count (a .from) (a .to - a .from)) (a .labels .now)) (c .before .before .before .before .labels-in .ensures)
+    ∙ ap (λ w. through (relabel w (trailingZeros 128 w)) (count (a .from) (a .to - a .from)) (a .labels .now)) (c .before .before .labels-in .ensures)
 
 pub join-spec : {M : Type 1} → statement M
 join-spec =
@@ -72,10 +73,10 @@ join-spec =
     (tie.spec
     Inv-loop
     μ-loop
-    labels-in-requires
-    length-requires
+    alike-requires
     same-length
     returns
+    labels-in-requires
     loop-holds
     relabel-requires
     add-j

@@ -11,8 +11,9 @@ returns c = added-over _ _ _ (c .if1 .taken)
 
 returns-2 : tie.Need-returns-2
 returns-2 c =
-    let a = c .before .before .args in
-    added-nothing (2 ^ 64 - 1) (a .count) (a .a) (a .b) (omega (arith, c .before .before .good)) (c .before .if1 .left) (c .if2 .taken)
+    let start = c .before .before .before in
+    let a = start .args in
+    added-nothing (2 ^ 64 - 1) (a .count) (a .a) (a .b) (omega (arith, start .good)) (c .before .if1 .left) (c .if2 .taken)
 
 sub-if3 : tie.Need-sub-if3
 sub-if3 c = search needs
@@ -22,22 +23,22 @@ div-if3 c = search needs
 
 returns-3 : tie.Need-returns-3
 returns-3 c =
-    let a = c .before .before .before .before .args in
+    let a = c .before .before .before .before .before .args in
     added-past (2 ^ 64 - 1) (a .count) (a .a) (a .b) (omega arith) (c .before .before .if2 .left) (c .if3 .taken)
 
 mul-t6 : tie.Need-mul-t6
 mul-t6 c =
-    let a = c .before .before .before .before .args in
+    let a = c .before .before .before .before .before .args in
     omega (arith, product-fits (2 ^ 64 - 1) (a .count) (a .a) (a .b) (omega arith) (c .before .before .if2 .left) (c .if3 .left))
 
 add-t7 : tie.Need-add-t7
 add-t7 c =
-    let a = c .before .before .before .before .before .args in
+    let a = c .before .before .before .before .before .before .args in
     omega (arith, product-fits (2 ^ 64 - 1) (a .count) (a .a) (a .b) (omega arith) (c .before .before .before .if2 .left) (c .before .if3 .left))
 
 returns-4 : tie.Need-returns-4
 returns-4 c =
-    let a = c .before .before .before .before .before .args in
+    let a = c .before .before .before .before .before .before .args in
     added-fits (2 ^ 64 - 1) (a .count) (a .a) (a .b) (omega arith) (c .before .before .before .before .if1 .left) (c .before .before .before .if2 .left)
     (c .before .if3 .left)
 

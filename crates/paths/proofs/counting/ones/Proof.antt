@@ -1,48 +1,57 @@
--- The counts before the next are 1.
-use mathlib.Core.Path.{_≡_, _∙_}
-use Prim.Native.Nat.{ℕ, _-_, _<_, _≤_}
+-- The counts of the atoms before those left are 1.
+use mathlib.Core.Path.{_≡_, refl}
+use Prim.Native.Nat.{_<_, _^_}
 use native.Mathlib.Omega.{arith}
-use borrow.Author.Count.{below-none, below-more}
 use borrow.Author.Needs.{needs}
-use lib.ListN.{length, getD}
-use lib.Seq.{getD-set-same, getD-set-other}
+use lib.Count.{trailing-le}
+use lib.ListN.{length}
+use Rattle.bondset.proofs.Laws.{pos-of-ne}
+use Rattle.bondset.proofs.Members.{and-pred-lt}
+use Rattle.model.specs.Layer.{low}
+use Rattle.paths.proofs.Tables.{low-lt, others-word, Done, done-start, done-more, done-end}
 use Rattle.paths.proofs.counting.ones.Statement.{statement}
 use Rattle.paths.proofs.counting.ones.Tie as tie
 
 abbrev Inv-loop : tie.InvT-loop
-Inv-loop counts₀ i₀ counts i = (i ≤ 64) × (length counts ≡ length counts₀) × ((t : ℕ) → t < i → getD counts t 0 ≡ 1)
+Inv-loop counts₀ s rest₀ counts rest = (length counts ≡ length counts₀) × (rest < 2 ^ 64) × Done (λ t. 1) s rest counts
 
 abbrev μ-loop : tie.MeasureT-loop
-μ-loop counts₀ i₀ counts i = 64 - i
+μ-loop counts₀ s rest₀ counts rest = rest
 
 loop-holds : tie.Need-loop-holds Inv-loop μ-loop
-loop-holds c = (omega arith, search needs, below-none _)
+loop-holds c = (search needs, c .fits .s .fits, done-start _ _ (c .args .counts .now))
+
+cast-counts : tie.Need-cast-counts Inv-loop μ-loop
+cast-counts c = omega (arith, trailing-le 64 (c .before .loop .rest))
+
+-- The lowest atom that remains is one of 64.
+index : (c : tie.In-loop Inv-loop μ-loop) → low (c .before .loop .rest) < 64
+index c = low-lt (c .before .loop .rest) (pos-of-ne _ (c .loop-test .taken)) (c .before .loop .inv .1)
 
 mul-counts : tie.Need-mul-counts Inv-loop μ-loop
-mul-counts c = search needs
+mul-counts c = omega (arith, index c)
 
 slice-write-counts : tie.Need-slice-write-counts Inv-loop μ-loop
-slice-write-counts c = search needs
+slice-write-counts c = omega (arith, index c)
 
-add-i : tie.Need-add-i Inv-loop μ-loop
-add-i c = search needs
+sub-rest : tie.Need-sub-rest Inv-loop μ-loop
+sub-rest c = search needs
 
 loop-less : tie.Need-loop-less Inv-loop μ-loop
-loop-less c = search needs
+loop-less c = and-pred-lt (c .before .loop .rest) (pos-of-ne _ (c .loop-test .taken))
 
 loop-again : tie.Need-loop-again Inv-loop μ-loop
 loop-again c =
-    let b = c .before .loop in (
-      omega arith,
-      search needs,
-      below-more _ (b .i) (λ t h. getD-set-other (b .counts) (b .i) t 1 0 (omega arith) ∙ b .inv .2 t h) (getD-set-same (b .counts) (b .i) 1 0 (omega arith)),
-    )
+    let l = c .before .loop in
+    let some = pos-of-ne _ (c .loop-test .taken) in
+    (search needs, others-word (l .rest) some (l .inv .1), done-more _ _ (l .rest) (l .counts) 1 some (l .inv .1) (omega arith) (l .inv .2) refl)
 
 same-length : tie.Need-same-length Inv-loop μ-loop
 same-length c = search needs
 
 returns : tie.Need-returns Inv-loop μ-loop
-returns c t h = c .before .loop .inv .2 t (omega arith)
+returns c = done-end _ _ _ (c .before .loop .counts) (c .before .loop .inv .2) (c .loop-test .left)
 
 pub ones-spec : {M : Type 1} → statement M
-ones-spec = tie.close (tie.spec Inv-loop μ-loop loop-holds mul-counts slice-write-counts add-i loop-less loop-again same-length returns)
+ones-spec =
+    tie.close (tie.spec Inv-loop μ-loop loop-holds cast-counts mul-counts slice-write-counts sub-rest loop-less loop-again same-length returns)

@@ -3,7 +3,7 @@ use native.Mathlib.Omega.{arith}
 use borrow.Author.Needs.{needs}
 use Rattle.compound.specs.Nets.{compound}
 use Rattle.rings.specs.Calls.{Fitting}
-use Rattle.rings.proofs.Grounding.{accepted-bonds}
+use Rattle.engine.proofs.Accepted.{accepted-bonds}
 use Rattle.rings.proofs.Answering.{counted-over, fitting, answers-few-rows, answers-few-class-rows, answers-many-rings, answers-full}
 use Rattle.rings.proofs.call.accepted.Statement.{statement}
 use Rattle.rings.proofs.call.accepted.Tie as tie
@@ -11,12 +11,12 @@ use Rattle.rings.proofs.call.accepted.Tie as tie
 -- None of 7 to 9 holds.
 abbrev Fits : tie.Else3 → Type 0
 Fits c =
-    let a = c .before .before .before .before .before .before .before .before .before .before .before .before .before .before .before .before .before .before .args in
+    let a = c .before .before .before .before .before .before .before .before .before .before .before .before .before .before .before .before .before .before .before .args in
     Fitting (compound (a .n) (a .bonds .now)) (a .family-rows .now) (a .class-rows .now)
 
 fits : (c : tie.Else3) → Fits c
 fits c =
-    let test2 = c .before .before in
+    let test2 = c .before .before .before in
     let test1 = test2 .before in
     let room = test1 .before in
     let called = room .before .before .before .before in
@@ -37,7 +37,7 @@ report-requires c κs =
     start .pre
 
 room-requires : tie.Need-room-requires
-room-requires c κs = search needs
+room-requires c κs = tt
 
 returns : tie.Need-returns
 returns c =
@@ -57,7 +57,7 @@ returns-2 c =
 
 returns-3 : tie.Need-returns-3
 returns-3 c =
-    let test2 = c .before .before in
+    let test2 = c .before .before .before in
     let test1 = test2 .before in
     let room = test1 .before in
     let called = room .before .before .before .before in
@@ -78,30 +78,30 @@ slice-aggregate-deliver-3 c = search needs
 deliver-requires : tie.Need-deliver-requires
 deliver-requires c κs =
     let test = c .before .before .before .before .before .before in
-    let called = test .before .before .before .before .before .before .before .before in
+    let called = test .before .before .before .before .before .before .before .before .before in
     let start = called .before .before .before .before .before .before .before .before .before .before in
     (start .pre, (called .report .ensures, fits test))
 
 cyclomatic-requires : tie.Need-cyclomatic-requires
 cyclomatic-requires c κs =
-    let called = c .before .before .before .before .before .before .before .before .before .before .before .before .before .before .before .before .before .before .before .before .before in
+    let called = c .before .before .before .before .before .before .before .before .before .before .before .before .before .before .before .before .before .before .before .before .before .before in
     let start = called .before .before .before .before .before .before .before .before .before .before in
     accepted-bonds _ (start .pre .accepted)
 
 same-length : tie.Need-same-length
-same-length c = search needs
+same-length c = c .before .before .before .before .before .before .before .deliver .kept .1 .1 .1 .1 .1 .1 .1 .1 .1 .0
 
 same-length-2 : tie.Need-same-length-2
-same-length-2 c = search needs
+same-length-2 c = c .before .before .before .before .before .before .before .deliver .kept .1 .1 .1 .1 .1 .1 .1 .1 .1 .1 .0
 
 same-length-3 : tie.Need-same-length-3
-same-length-3 c = search needs
+same-length-3 c = c .before .before .before .before .before .before .before .deliver .kept .1 .1 .1 .1 .1 .1 .1 .1 .1 .1 .1 .0
 
 returns-4 : tie.Need-returns-4
 returns-4 c =
     let delivered = c .before .before .before .before .before .before .before in
     let test = delivered .before .before .before .before .before .before .before in
-    let called = test .before .before .before .before .before .before .before .before in
+    let called = test .before .before .before .before .before .before .before .before .before in
     let start = called .before .before .before .before .before .before .before .before .before .before in
     answers-full (start .pre .accepted) (called .report .ensures) (fits test) (delivered .deliver .ensures) (c .cyclomatic .ensures)
 

@@ -45,10 +45,10 @@ enum-known-found : tie.Need-enum-known-found
 enum-known-found c = search needs
 
 same-length : tie.Need-same-length
-same-length c = search needs
+same-length c = c .before .before .before .before .before .before .before .read .kept .1 .1 .0
 
 same-length-2 : tie.Need-same-length-2
-same-length-2 c = search needs
+same-length-2 c = c .before .before .before .before .before .before .before .read .kept .1 .1 .1 .0
 
 returns-5 : tie.Need-returns-5
 returns-5 c =
@@ -61,10 +61,10 @@ enum-known-found-2 : tie.Need-enum-known-found-2
 enum-known-found-2 c = search needs
 
 same-length-3 : tie.Need-same-length-3
-same-length-3 c = search needs
+same-length-3 c = c .before .before .before .before .before .before .before .read .kept .1 .1 .0
 
 same-length-4 : tie.Need-same-length-4
-same-length-4 c = search needs
+same-length-4 c = c .before .before .before .before .before .before .before .read .kept .1 .1 .1 .0
 
 returns-6 : tie.Need-returns-6
 returns-6 c =
@@ -77,10 +77,10 @@ enum-known-found-3 : tie.Need-enum-known-found-3
 enum-known-found-3 c = search needs
 
 same-length-5 : tie.Need-same-length-5
-same-length-5 c = search needs
+same-length-5 c = c .before .before .before .before .before .before .before .read .kept .1 .1 .0
 
 same-length-6 : tie.Need-same-length-6
-same-length-6 c = search needs
+same-length-6 c = c .before .before .before .before .before .before .before .read .kept .1 .1 .1 .0
 
 returns-7 : tie.Need-returns-7
 returns-7 c =
@@ -101,10 +101,10 @@ in-one-piece-requires c κs =
     (within test .some, (within test .atoms, omega (arith, called .read .kept .1 .1 .0, long)))
 
 same-length-7 : tie.Need-same-length-7
-same-length-7 c = search needs
+same-length-7 c = c .before .before .before .before .before .before .before .before .before .read .kept .1 .1 .0
 
 same-length-8 : tie.Need-same-length-8
-same-length-8 c = search needs
+same-length-8 c = c .before .before .before .before .before .before .before .before .before .read .kept .1 .1 .1 .0
 
 returns-8 : tie.Need-returns-8
 returns-8 c =
@@ -119,10 +119,10 @@ returns-8 c =
     (stands (input test) (within test) (arm .enum-told .given .1) (called .read .ensures) (sym (c .if5 .taken) ∙ asked .in-one-piece .ensures) adjLong touchLong)
 
 same-length-9 : tie.Need-same-length-9
-same-length-9 c = search needs
+same-length-9 c = c .before .before .before .before .before .before .before .before .before .read .kept .1 .1 .0
 
 same-length-10 : tie.Need-same-length-10
-same-length-10 c = search needs
+same-length-10 c = c .before .before .before .before .before .before .before .before .before .read .kept .1 .1 .1 .0
 
 returns-9 : tie.Need-returns-9
 returns-9 c =

@@ -2,7 +2,7 @@
 use mathlib.Core.Path.{sym}
 use native.Mathlib.Omega.{arith}
 use borrow.Author.Needs.{needs}
-use Rattle.rings.proofs.Copying.{getD-past}
+use Rattle.engine.proofs.Reporting.{getD-past}
 use Rattle.rings.proofs.call.size_at.Statement.{statement}
 use Rattle.rings.proofs.call.size_at.Tie as tie
 

@@ -1,0 +1,52 @@
+//! The engine: all lengths, top atoms and candidates of a compound in order, into lent rows.
+//!
+//! Nothing is allocated. The loops compute exactly what the definitions of `specs/Engine.antt` say, which are those of the
+//! plan in `model` over rows of bytes; what a run leaves is the report of the compound, as much of it as there is room for.
+ghost use mathlib.Core.Path.{_≡_};
+ghost use Prim.Native.Nat.{_+_, _-_, _/_, _≤_};
+ghost use lib.ListN.{length};
+ghost use Rattle.compound.specs.Nets.{compound};
+ghost use Rattle.engine.specs.Reports.{Stands, Reports};
+use ledger::Tally;
+use paths::counting::Count;
+
+pub mod candidates;
+pub mod cursor;
+pub mod lengths;
+
+/// What has been counted so far, and the number of rings.
+pub struct Going {
+    /// Marked rings, families, classes and the total length.
+    pub tally: Tally,
+    /// The number of rings.
+    pub rings: Count,
+}
+
+/// The cyclomatic number, of a compound in one piece.
+pub fn cyclomatic(n: usize, bonds: &[u8]) -> usize
+    requires { ⌜ n ≤ length (now bonds) / 2 + 1 ⌝ }
+    ensures { λ r. ⌜ r ≡ length (now (bonds .entry)) / 2 + 1 - n ⌝ }
+{
+    bonds.len() / 2 + 1 - n
+}
+
+/// Runs the engine on a compound: as many rows as there is room for go into `out` and `table`, and the sizes of the families
+/// from row `from` on into `sizes`.
+pub fn report(
+    n: usize,
+    bonds: &[u8],
+    adj: &[u64],
+    touch: &[u64],
+    from: usize,
+    out: &mut [u8],
+    table: &mut [u8],
+    sizes: &mut [u64],
+) -> Going
+    requires { ⌜ Stands (compound n (now bonds)) (now adj) (now touch) ⌝ }
+    ensures { λ r. ⌜ Reports (compound n (now (bonds .entry))) from (now (out .entry)) (now (table .entry)) (now (sizes .entry))
+        r (now (out .exit)) (now (table .exit)) (now (sizes .exit)) ⌝ }
+{
+    let full = cyclomatic(n, bonds);
+    let tops = compound::tops(n, adj);
+    lengths::run(n, adj, touch, tops, full, from, out, table, sizes)
+}

@@ -1,0 +1,25 @@
+-- Bonds as records: their bytes, and what the byte form is lent of them.
+use mathlib.Core.List.{List, [], _∷_, _++_}
+use mathlib.Core.Bool.{Bool, true, false}
+use Prim.Native.Nat.{ℕ, _-_, _*_}
+use lib.ListN.{take, replicate}
+use lib.Dec.{ltb}
+use Rattle.records.specs.declared.Bond.{Bond}
+
+-- The bytes of the records one after the other: "two atom numbers a bond".
+unfoldable pub flattened : List Bond → List ℕ
+flattened [] = []
+flattened (bond ∷ bonds) = bond .a ∷ bond .b ∷ flattened bonds
+
+-- The bytes of the first k records, and zeros up to 192 bytes.
+abbrev pub laid : List Bond → ℕ → List ℕ
+laid bonds k = flattened (take k bonds) ++ replicate (192 - 2 * k) 0
+
+-- How many bytes the byte form is lent for so many records: two for each, and 1, which it refuses as it refuses their bytes, for more
+-- than 96.
+unfoldable pub bytesWhere : Bool → ℕ → ℕ
+bytesWhere true count = 1
+bytesWhere false count = 2 * count
+
+abbrev pub bytesOf : ℕ → ℕ
+bytesOf count = bytesWhere (ltb 96 count) count
