@@ -6,9 +6,9 @@
  * bonds join the same two atoms, and none joins an atom to itself.
  *
  * NOTHING NEEDS TO BE CHECKED BEFORE A CALL. Every input gets the full answer or one numbered refusal, and a refused call
- * leaves both row buffers untouched. All lengths are in bytes, but for the number of records. The buffers must not overlap, each
- * must have the length that is said, and no pointer may be NULL, not even with length 0. Nothing is allocated or kept between calls, and calls on
- * different buffers may run at the same time.
+ * leaves both row buffers untouched. All lengths are in bytes, but for the number of records. The buffers must not overlap,
+ * each must have the length that is said, and no pointer may be NULL, not even with length 0. Nothing is allocated or kept
+ * between calls, and calls on different buffers may run at the same time.
  *
  * All calls write rows from byte 0 of their buffers with no gaps, and leave the bytes after the last row as they were.
  *

@@ -4,9 +4,6 @@ pub mod Sizes
 pub mod Steps
 pub mod Rows
 pub mod Ran
-pub mod Ahead
-pub mod CandidatesKept
-pub mod CandidatesLoop
 pub mod Tried
 pub mod Accepted
 pub mod Reporting

@@ -17,7 +17,8 @@ use Rattle.model.specs.Run.{runAll, reportBy, report}
 use Rattle.model.proofs.Meets.{Reached, run-all-reached, reached-few, accepted-ready}
 use Rattle.paths.specs.Counts.{counted}
 use Rattle.ledger.specs.Ledger.{Ledger}
-use Rattle.engine.specs.Engine.{most, Engine, runBy}
+use Rattle.candidates.specs.Engine.{most, Engine}
+use Rattle.engine.specs.Lengths.{runBy}
 use Rattle.engine.proofs.Laid.{length-laid, laid-all}
 use Rattle.engine.proofs.Keeps.{writtenRows, writtenClasses, rowBytes, classRowBytes, row-wide, class-wide, room-8, room-5}
 use Rattle.engine.proofs.Sizes.{writtenSizes, written-one}

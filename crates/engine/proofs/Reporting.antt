@@ -13,9 +13,10 @@ use Rattle.answers.specs.Answered.{over, sizeOf}
 use Rattle.model.specs.Net.{netOf}
 use Rattle.model.specs.Run.{report}
 use Rattle.compound.specs.Nets.{compound}
-use Rattle.engine.specs.declared.Going.{Going}
-use Rattle.engine.specs.Engine.{Engine, runBy}
-use Rattle.engine.specs.Going.{graph, engineOf, Runs}
+use Rattle.candidates.specs.declared.Going.{Going}
+use Rattle.candidates.specs.Engine.{Engine}
+use Rattle.engine.specs.Lengths.{runBy, Runs}
+use Rattle.candidates.specs.Going.{graph, engineOf}
 use Rattle.engine.specs.Reports.{Stands, Reports}
 use Rattle.engine.proofs.Sizes.{writtenFrom, writtenSizes}
 use Rattle.engine.proofs.Ran.{Ran, engine-ran}

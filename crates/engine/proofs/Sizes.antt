@@ -13,7 +13,7 @@ use lib.Seq.{take-all, take-nil, drop-nil, drop-cons, drop-append-le, take-appen
 use Rattle.bondset.proofs.Laws.{lt-or-ge}
 use Rattle.cycles.specs.Rows.{Row}
 use Rattle.answers.specs.Answered.{over, sizeOf}
-use Rattle.engine.specs.Engine.{putSize}
+use Rattle.candidates.specs.Engine.{putSize}
 use Rattle.engine.proofs.Laid.{length-over}
 
 -- The numbers from one on, over a list as far as there is room.

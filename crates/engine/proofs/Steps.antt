@@ -27,7 +27,8 @@ use Rattle.paths.specs.declared.counting.Count.{Count}
 use Rattle.paths.specs.Counts.{added, counted}
 use Rattle.paths.proofs.Added.{added-counted, counted-none, counted-not-flagged}
 use Rattle.ledger.specs.Ledger.{Ledger}
-use Rattle.engine.specs.Engine.{most, Engine, putSize, keptBy, attempted, settledBy, begun, roundBy, runBy}
+use Rattle.candidates.specs.Engine.{most, Engine, putSize, keptBy, attempted}
+use Rattle.engine.specs.Lengths.{settledBy, begun, roundBy, runBy}
 use Rattle.engine.proofs.Laid.{laid-none}
 use Rattle.engine.proofs.Keeps.{word, rowsOf, Keeps, keeps-kept, keeps-settled, rowBytes, classRowBytes, row-wide, class-wide, room-8, room-5}
 use Rattle.engine.proofs.Sizes.{writtenFrom, writtenSizes, written-none, length-putSize, size-next}

@@ -21,9 +21,10 @@ use Rattle.paths.proofs.Layered.{layers-disjoint}
 use Rattle.ledger.specs.declared.Tally.{Tally}
 use Rattle.ledger.specs.Ledger.{Ledger}
 use Rattle.ledger.specs.Held.{Sized, Fit, Settles}
-use Rattle.engine.specs.declared.Going.{Going}
-use Rattle.engine.specs.Engine.{Engine, attempted, settledBy, roundBy, begun, runBy}
-use Rattle.engine.specs.Going.{graph, engineOf, Place, Tries, Rounds, Runs}
+use Rattle.candidates.specs.declared.Going.{Going}
+use Rattle.candidates.specs.Engine.{Engine, attempted}
+use Rattle.engine.specs.Lengths.{settledBy, roundBy, begun, runBy, Rounds, Runs}
+use Rattle.candidates.specs.Going.{graph, engineOf, Place, Tries}
 
 -- ---- one top atom
 

@@ -1,4 +1,2 @@
-pub mod Engine
-pub mod Going
-pub mod Cursor
+pub mod Lengths
 pub mod Reports

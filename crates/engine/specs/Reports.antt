@@ -9,7 +9,7 @@ use Rattle.answers.specs.Answered.{familyBytes, classBytes, over, sizeOf, most}
 use Rattle.model.specs.Net.{adjOf, touchOf}
 use Rattle.model.specs.Run.{report}
 use Rattle.paths.specs.Counts.{counted}
-use Rattle.engine.specs.declared.Going.{Going}
+use Rattle.candidates.specs.declared.Going.{Going}
 
 -- The compound is accepted, and these are the neighbours and the bonds of each atom.
 pub record Stands (c : Compound) (adj touch : List ℕ) : Type 0 where

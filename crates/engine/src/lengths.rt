@@ -6,9 +6,9 @@ ghost use Rattle.model.specs.Fold.{through, count};
 ghost use Rattle.model.specs.Net.{preceding};
 ghost use Rattle.model.specs.Loops.{tops as topsOf};
 ghost use Rattle.ledger.specs.Held.{Sized, Fit};
-ghost use Rattle.engine.specs.Engine.{roundBy};
-ghost use Rattle.engine.specs.Going.{graph, Rounds, Runs};
-use crate::Going;
+ghost use Rattle.engine.specs.Lengths.{roundBy, Rounds, Runs};
+ghost use Rattle.candidates.specs.Going.{graph};
+use candidates::Going;
 use ledger::Tally;
 use paths::counting::Count;
 
@@ -57,7 +57,7 @@ fn round(
     while rest != 0 {
         let r = compound::lowest(rest);
         compound::search::layers(adj, compound::preceding(r), r, k / 2, layers);
-        let next = crate::candidates::seek(
+        let next = candidates::seek(
             n,
             adj,
             touch,

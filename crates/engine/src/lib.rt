@@ -1,26 +1,15 @@
-//! The engine: all lengths, top atoms and candidates of a compound in order, into lent rows.
+//! The engine: all lengths and top atoms of a compound in order, into lent rows.
 //!
-//! Nothing is allocated. The loops compute exactly what the definitions of `specs/Engine.antt` say, which are those of the
+//! Nothing is allocated. The loops compute exactly what the definitions of `specs/Lengths.antt` say, which are those of the
 //! plan in `model` over rows of bytes; what a run leaves is the report of the compound, as much of it as there is room for.
 ghost use mathlib.Core.Path.{_≡_};
 ghost use Prim.Native.Nat.{_+_, _-_, _/_, _≤_};
 ghost use lib.ListN.{length};
 ghost use Rattle.compound.specs.Nets.{compound};
 ghost use Rattle.engine.specs.Reports.{Stands, Reports};
-use ledger::Tally;
-use paths::counting::Count;
+use candidates::Going;
 
-pub mod candidates;
-pub mod cursor;
 pub mod lengths;
-
-/// What has been counted so far, and the number of rings.
-pub struct Going {
-    /// Marked rings, families, classes and the total length.
-    pub tally: Tally,
-    /// The number of rings.
-    pub rings: Count,
-}
 
 /// The cyclomatic number, of a compound in one piece.
 pub fn cyclomatic(n: usize, bonds: &[u8]) -> usize

@@ -19,7 +19,7 @@ use Rattle.paths.specs.declared.counting.Count.{Count}
 use Rattle.paths.specs.Counts.{counted}
 use Rattle.paths.proofs.Added.{counted-flagged, counted-not-flagged}
 use Rattle.compound.specs.Nets.{compound}
-use Rattle.engine.specs.declared.Going.{Going}
+use Rattle.candidates.specs.declared.Going.{Going}
 use Rattle.rings.specs.declared.Answer.{Answer}
 use Rattle.rings.specs.declared.Answer.the-variants.{Full, FewRows, FewClassRows, ManyRings}
 use Rattle.engine.specs.Reports.{Reports}

@@ -7,8 +7,8 @@ ghost use Rattle.compound.specs.Nets.{compound};
 ghost use Rattle.engine.specs.Reports.{Stands, Reports};
 ghost use Rattle.rings.specs.Calls.{Grounded, Fitting, Delivered, Answers};
 use crate::Answer;
+use candidates::Going;
 use compound::Read;
-use engine::Going;
 
 /// Whether an input is a compound that the engine works on.
 pub enum Ground {

@@ -4,7 +4,7 @@ use native.Mathlib.Omega.{arith}
 use borrow.Author.Needs.{needs}
 use Rattle.model.specs.Net.{preceding}
 use Rattle.compound.proofs.Same.{tops-same}
-use Rattle.engine.specs.Going.{graph}
+use Rattle.candidates.specs.Going.{graph}
 use Rattle.engine.proofs.Accepted.{accepted-atoms, accepted-bonds}
 use Rattle.engine.proofs.Reporting.{run-reports}
 use Rattle.engine.proofs.report.Statement.{statement}

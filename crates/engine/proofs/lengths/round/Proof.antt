@@ -8,8 +8,8 @@ use Rattle.model.specs.Net.{preceding}
 use Rattle.model.specs.Loops.{running, topLoop}
 use Rattle.compound.proofs.Loops.{Over, over-start, over-end}
 use Rattle.ledger.specs.Held.{Sized, Fit}
-use Rattle.engine.specs.Engine.{attempted}
-use Rattle.engine.specs.Going.{graph, engineOf}
+use Rattle.candidates.specs.Engine.{attempted}
+use Rattle.candidates.specs.Going.{graph, engineOf}
 use Rattle.engine.proofs.Tried.{top-atom, half-deep, top-place, top-turn, round-is, round-full}
 use Rattle.engine.proofs.lengths.round.Statement.{statement}
 use Rattle.engine.proofs.lengths.round.Tie as tie

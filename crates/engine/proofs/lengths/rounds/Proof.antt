@@ -6,8 +6,8 @@ use lib.ListN.{length}
 use Rattle.model.specs.Loops.{running}
 use Rattle.compound.proofs.Loops.{Upto, upto-start, upto-end}
 use Rattle.ledger.specs.Held.{Sized, Fit}
-use Rattle.engine.specs.Engine.{roundBy}
-use Rattle.engine.specs.Going.{graph, engineOf}
+use Rattle.engine.specs.Lengths.{roundBy}
+use Rattle.candidates.specs.Going.{graph, engineOf}
 use Rattle.engine.proofs.Tried.{length-turn}
 use borrow.Author.Needs.{needs}
 use Rattle.engine.proofs.lengths.rounds.Statement.{statement}

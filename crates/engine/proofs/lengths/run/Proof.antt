@@ -1,8 +1,8 @@
 -- The engine begins with no ring and all lists zero.
 use mathlib.Core.Path.{refl}
 use native.Mathlib.Omega.{arith}
-use Rattle.engine.specs.Engine.{begun}
-use Rattle.engine.specs.Going.{graph}
+use Rattle.engine.specs.Lengths.{begun}
+use Rattle.candidates.specs.Going.{graph}
 use Rattle.engine.proofs.Tried.{sized-start, fit-start, run-is}
 use borrow.Author.Needs.{needs}
 use Rattle.engine.proofs.lengths.run.Statement.{statement}

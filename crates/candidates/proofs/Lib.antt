@@ -1,0 +1,3 @@
+pub mod Ahead
+pub mod Kept
+pub mod Trying

@@ -1,0 +1,3 @@
+pub mod Engine
+pub mod Going
+pub mod Cursor
