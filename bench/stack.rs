@@ -6,10 +6,36 @@ use crate::inputs::Input;
 use crate::rings::reply::{self, Reply};
 use crate::rings::Bond;
 
+/// The calls that are measured, in the order of their depths.
+pub const CALLS: [&str; 4] = ["rings_families", "rings_family_size", "rings_families_of", "rings_family_size_of"];
+
+/// A depth of stack for each of the calls.
+pub type Depths = [usize; CALLS.len()];
+
 const PATTERN: u64 = 0x5AA5_C33C_0FF0_9669;
-/// How far down is painted, and how near to the painter's own frame.
+/// How far down is painted.
 const DEEP: usize = 64 * 1024;
+/// How near to the painter's own frame.
 const NEAR: usize = 512;
+
+/// How many words are painted.
+const WORDS: usize = (DEEP - NEAR) / 8;
+
+// Why the two below are sound: the words are below all frames in use but above the end of the thread's stack, and no frame of
+// theirs reaches down to them.
+
+fn paint(low: *mut u64) {
+    for i in 0..WORDS {
+        // SAFETY: see above.
+        unsafe { low.add(i).write_volatile(PATTERN) };
+    }
+}
+
+/// How many words, from the lowest, are as they were painted.
+fn left_alone(low: *const u64) -> usize {
+    // SAFETY: see above.
+    (0..WORDS).take_while(|i| unsafe { low.add(*i).read_volatile() } == PATTERN).count()
+}
 
 /// Bytes from the stack pointer of the caller to the lowest word that the call wrote.
 #[inline(never)]
@@ -17,31 +43,27 @@ fn depth(mut call: impl FnMut() -> Reply) -> usize {
     // Once beforehand, so that nothing is resolved or loaded for the first time while it is watched.
     call();
     let here: usize;
+    // SAFETY: the stack pointer is only read.
     unsafe { std::arch::asm!("mov {}, rsp", out(reg) here) };
     let low = (here - DEEP) as *mut u64;
-    for i in 0..(DEEP - NEAR) / 8 {
-        unsafe { low.add(i).write_volatile(PATTERN) };
-    }
+    paint(low);
     call();
-    let mut i = 0;
-    while i < (DEEP - NEAR) / 8 && unsafe { low.add(i).read_volatile() } == PATTERN {
-        i += 1;
-    }
-    DEEP - 8 * i
+    DEEP - 8 * left_alone(low)
 }
 
-/// The depth of each of three calls on a compound.
-fn of_calls(input: &Input) -> [usize; 3] {
+/// The depth of each call on a compound.
+fn of_calls(input: &Input) -> Depths {
     let records: Vec<Bond> = input.bytes.chunks(2).map(|w| Bond { a: w[0], b: w[1] }).collect();
     let (mut f, mut c) = (vec![0u8; FAMILY_ROW * FAMILIES], vec![0u8; CLASS_ROW * CLASSES]);
     [
         depth(|| reply::families(input.n, &input.bytes, &mut f, &mut c)),
         depth(|| reply::family_size(input.n, &input.bytes, &mut f, &mut c, 0)),
         depth(|| reply::families_of(input.n, &records, &mut f, &mut c)),
+        depth(|| reply::family_size_of(input.n, &records, &mut f, &mut c, 0)),
     ]
 }
 
-/// The greatest depth of each of the three calls over some compounds.
-pub fn greatest(inputs: &[Input]) -> [usize; 3] {
-    inputs.iter().map(of_calls).fold([0; 3], |a, b| [a[0].max(b[0]), a[1].max(b[1]), a[2].max(b[2])])
+/// The greatest depth of each call over some compounds.
+pub fn greatest(inputs: &[Input]) -> Depths {
+    inputs.iter().map(of_calls).fold([0; CALLS.len()], |a, b| std::array::from_fn(|i| a[i].max(b[i])))
 }

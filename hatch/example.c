@@ -26,6 +26,9 @@ int main(void) {
     for (size_t row = 0; row < r.families; row++) {
         const uint8_t *f = families + RINGS_FAMILY_ROW * row;
         rings_reply of_row = rings_family_size_of(atoms, records, count, families, sizeof families, classes, sizeof classes, row);
+        if (of_row.refusal != RINGS_ANSWERED) {
+            return 1;
+        }
         printf("family=%u,%u,%u,%u,", f[0], f[1], f[2], f[3]);
         if (f[4] == RINGS_ODD) {
             printf("-");

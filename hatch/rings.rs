@@ -8,7 +8,7 @@
 //! Nothing needs to be checked before a call. Every input gets the full answer or one [`Refusal`], and a refused call leaves
 //! both buffers as they were.
 //!
-//! `rt staticlib hatch` makes the archive; a program that has this file as a module is linked with
+//! The module allocates nothing and uses `core` alone (Rust 1.82 or later). `rt staticlib hatch` makes the archive; a program that has this file as a module is linked with
 //! `-L native=target/staticlib -l static=hatch`.
 //!
 //! # Examples
@@ -16,11 +16,14 @@
 //! Benzene has one ring:
 //!
 //! ```
+//! use rings::{families_of, Bond, CLASS_BYTES, FAMILY_BYTES, FAMILY_ROW};
+//!
 //! let bonds: Vec<Bond> = (0..6).map(|a| Bond { a, b: (a + 1) % 6 }).collect();
 //! let (mut family_rows, mut class_rows) = ([0; FAMILY_BYTES], [0; CLASS_BYTES]);
 //! let answer = families_of(6, &bonds, &mut family_rows, &mut class_rows)?;
 //! assert_eq!((answer.families, answer.total), (1, 6));
 //! assert_eq!(family_rows[..FAMILY_ROW], [6, 5, 1, 3, 2, 1, 0, 0]);
+//! # Ok::<(), rings::Refusal>(())
 //! ```
 
 /// The bytes of a family row.
@@ -47,7 +50,7 @@ pub struct Bond {
 /// The numbers of the full answer; the rows are in the lent buffers.
 #[derive(Clone, Copy, Debug, PartialEq, Eq)]
 pub struct Answer {
-    /// Bonds less atoms, and 1: the number of rings in the basis.
+    /// Bonds - atoms + 1: the number of rings in the basis.
     pub cyclomatic: u64,
     /// The number of family rows written.
     pub families: u64,
@@ -68,17 +71,32 @@ pub enum Refusal {
     /// 2: the bond bytes are odd in number, or there are more than 96 bonds.
     WrongBytes,
     /// 3: this bond names an atom that is not there.
-    NoAtom { bond: u64 },
+    NoAtom {
+        /// The number of the bond.
+        bond: u64,
+    },
     /// 4: this bond joins an atom to itself.
-    Loop { bond: u64 },
+    Loop {
+        /// The number of the bond.
+        bond: u64,
+    },
     /// 5: an earlier bond joins the same two atoms as this one, either way round.
-    Again { bond: u64 },
+    Again {
+        /// The number of the later bond.
+        bond: u64,
+    },
     /// 6: the compound is in more than one piece.
     Pieces,
-    /// 7: so many family rows are needed, and fewer are lent, of which at most 4,096 count.
-    FewRows { needed: u64 },
-    /// 8: so many class rows are needed, and fewer are lent.
-    FewClassRows { needed: u64 },
+    /// 7: there are more families than family rows lent, or than 4,096.
+    FewRows {
+        /// The number of families; above 4,096 no buffer is enough.
+        needed: u64,
+    },
+    /// 8: there are more classes than class rows lent.
+    FewClassRows {
+        /// The number of classes.
+        needed: u64,
+    },
     /// 9: there are more than `u64::MAX` rings.
     ManyRings,
 }
@@ -109,13 +127,13 @@ impl Refusal {
     }
 }
 
-impl std::fmt::Display for Refusal {
-    fn fmt(&self, f: &mut std::fmt::Formatter<'_>) -> std::fmt::Result {
+impl core::fmt::Display for Refusal {
+    fn fmt(&self, f: &mut core::fmt::Formatter<'_>) -> core::fmt::Result {
         write!(f, "refused={} at={}", self.number(), self.at())
     }
 }
 
-impl std::error::Error for Refusal {}
+impl core::error::Error for Refusal {}
 
 /// The ring families of a compound of `n` atoms, whose bonds are lent as two atom numbers each.
 ///
@@ -212,49 +230,49 @@ pub mod reply {
                 7 => Refusal::FewRows { needed: at },
                 8 => Refusal::FewClassRows { needed: at },
                 9 => Refusal::ManyRings,
-                _ => unreachable!("no call is refused by {refusal}"),
+                _ => unreachable!("no call is refused by {}", refusal),
             })
         }
     }
 
     // A slice passes as a pointer and a length.
-    extern "C" {
+    unsafe extern "C" {
         fn rings_families(
             n: usize,
             bonds: *const u8,
-            bonds_len: usize,
+            bond_bytes: usize,
             family_rows: *mut u8,
-            family_rows_len: usize,
+            family_bytes: usize,
             class_rows: *mut u8,
-            class_rows_len: usize,
+            class_bytes: usize,
         ) -> Reply;
         fn rings_family_size(
             n: usize,
             bonds: *const u8,
-            bonds_len: usize,
+            bond_bytes: usize,
             family_rows: *mut u8,
-            family_rows_len: usize,
+            family_bytes: usize,
             class_rows: *mut u8,
-            class_rows_len: usize,
+            class_bytes: usize,
             row: usize,
         ) -> Reply;
         fn rings_families_of(
             n: usize,
             bonds: *const Bond,
-            bonds_len: usize,
+            bond_count: usize,
             family_rows: *mut u8,
-            family_rows_len: usize,
+            family_bytes: usize,
             class_rows: *mut u8,
-            class_rows_len: usize,
+            class_bytes: usize,
         ) -> Reply;
         fn rings_family_size_of(
             n: usize,
             bonds: *const Bond,
-            bonds_len: usize,
+            bond_count: usize,
             family_rows: *mut u8,
-            family_rows_len: usize,
+            family_bytes: usize,
             class_rows: *mut u8,
-            class_rows_len: usize,
+            class_bytes: usize,
             row: usize,
         ) -> Reply;
     }

@@ -2,15 +2,16 @@
 //! found by elimination over all shorter rings, and each relevant ring is put into the family that its own top atom and
 //! the atoms opposite name. Candidates are never made; sizes are numbers of rings counted one by one.
 
-use crate::compound::{Compound, Kept, Listing};
+use crate::compound::{numbers_in, Compound, Kept, Listing, ODD};
 use crate::span::{Groups, Span};
 use std::collections::BTreeMap;
 
 /// Steps of the search for rings after which this judge stands back.
 const STEPS: usize = 100_000;
 
-struct Search<'a> {
-    near: &'a [Vec<usize>],
+/// The search for rings; its steps are counted over all lengths.
+struct Search {
+    near: Vec<Vec<usize>>,
     /// Distances to the lowest atom of the ring sought.
     back: Vec<usize>,
     path: Vec<usize>,
@@ -18,7 +19,17 @@ struct Search<'a> {
     steps: usize,
 }
 
-impl<'a> Search<'a> {
+impl Search {
+    /// The rings of a length, each as its atoms in turn; none if the search takes too many steps.
+    fn rings(&mut self, length: usize) -> Option<Vec<Vec<usize>>> {
+        for first in 0..self.near.len() {
+            self.back = distances(&self.near, first);
+            self.path = vec![first];
+            self.extend(length);
+        }
+        (self.steps <= STEPS).then(|| std::mem::take(&mut self.found))
+    }
+
     /// Extends the path to rings of this length on which the first atom is the lowest.
     fn extend(&mut self, length: usize) {
         self.steps += 1;
@@ -33,8 +44,8 @@ impl<'a> Search<'a> {
             }
             return;
         }
-        let near = self.near;
-        for &s in &near[last] {
+        for i in 0..self.near[last].len() {
+            let s = self.near[last][i];
             if s > first && self.back[s] + self.path.len() <= length && !self.path.contains(&s) {
                 self.path.push(s);
                 self.extend(length);
@@ -44,20 +55,21 @@ impl<'a> Search<'a> {
     }
 }
 
+/// Distances from an atom, layer by layer.
 fn distances(near: &[Vec<usize>], from: usize) -> Vec<usize> {
-    let mut distance = vec![usize::MAX / 2; near.len()];
+    let mut distance = vec![usize::MAX; near.len()];
     distance[from] = 0;
-    let mut queue = vec![from];
-    let mut next = 0;
-    while next < queue.len() {
-        let a = queue[next];
-        next += 1;
-        for &b in &near[a] {
-            if distance[b] > distance[a] + 1 {
-                distance[b] = distance[a] + 1;
-                queue.push(b);
+    let (mut layer, mut d) = (vec![from], 0);
+    while !layer.is_empty() {
+        d += 1;
+        let mut next = Vec::new();
+        for &b in layer.iter().flat_map(|a| &near[*a]) {
+            if distance[b] == usize::MAX {
+                distance[b] = d;
+                next.push(b);
             }
         }
+        layer = next;
     }
     distance
 }
@@ -65,8 +77,11 @@ fn distances(near: &[Vec<usize>], from: usize) -> Vec<usize> {
 /// A ring as its path from p to the top atom, its path from q to the top atom, and its bonds.
 type Member = (Vec<usize>, Vec<usize>, u128);
 
-/// The family that a ring names: (length, r, x, p, q), and the ring as a member of it.
-fn place(c: &Compound, ring: &[usize]) -> ((usize, usize, usize, usize, usize), Member) {
+/// What names a family: length, r, x, p and q, in row order.
+type Name = (usize, usize, usize, usize, usize);
+
+/// The family that a ring names, and the ring as a member of it.
+fn place(c: &Compound, ring: &[usize]) -> (Name, Member) {
     let length = ring.len();
     let set = (0..length).fold(0u128, |set, i| set | 1 << c.bond(ring[i], ring[(i + 1) % length]).unwrap());
     let top = (0..length).max_by_key(|i| ring[*i]).unwrap();
@@ -76,7 +91,7 @@ fn place(c: &Compound, ring: &[usize]) -> ((usize, usize, usize, usize, usize), 
     let arm = if length % 2 == 1 { half } else { half - 1 };
     let forward: Vec<usize> = (0..=arm).rev().map(|i| from_top[i]).collect();
     let backward: Vec<usize> = (length - arm..length).map(|i| from_top[i]).chain([from_top[0]]).collect();
-    let x = if length % 2 == 1 { 255 } else { from_top[half] };
+    let x = if length % 2 == 1 { ODD } else { from_top[half] };
     let (path_p, path_q) = if forward[0] < backward[0] { (forward, backward) } else { (backward, forward) };
     ((length, from_top[0], x, path_p[0], path_q[0]), (path_p, path_q, set))
 }
@@ -85,68 +100,51 @@ fn place(c: &Compound, ring: &[usize]) -> ((usize, usize, usize, usize, usize), 
 /// the relevant rings modulo the shorter rings. The basis is taken from the last ring backwards.
 fn groups(shorter: &Span, rings: &[u128]) -> Vec<usize> {
     let mut span = shorter.clone();
-    let base = span.rank();
-    let mut basis = Vec::new();
-    for (i, ring) in rings.iter().enumerate().rev() {
-        if span.add(*ring) {
-            basis.push(i);
-        }
-    }
+    let basis: Vec<usize> = (0..rings.len()).rev().filter(|i| span.add(rings[*i])).collect();
     let mut groups = Groups::new(rings.len());
     for (i, ring) in rings.iter().enumerate() {
-        let used = span.members(*ring).unwrap() >> base;
-        for (j, member) in basis.iter().enumerate() {
-            if used >> j & 1 == 1 {
-                groups.join(i, *member);
-            }
-        }
+        let used = span.members(*ring).unwrap() >> shorter.rank();
+        groups.join(i, numbers_in(used).map(|j| basis[j]));
     }
     (0..rings.len()).map(|i| groups.of(i)).collect()
 }
 
+/// The family of a name from its members, each with its group.
+fn kept((length, r, x, p, q): Name, members: &[(&Member, usize)], marked: &mut Span) -> Result<Kept, String> {
+    // The lowest-numbered step each time makes the first path in the order of atom numbers.
+    let (prototype, group) = members.iter().min().unwrap();
+    if members.iter().any(|(_, g)| g != group) {
+        return Err("members of one family are in two classes".into());
+    }
+    let mark = marked.add(prototype.2);
+    // Groups of different lengths are kept apart.
+    Ok(Kept { length, r, p, q, x, mark, group: group + (length << 32), size: members.len() as u128 })
+}
+
+/// The families of one length, from all rings of that length.
+fn kept_of_length(placed: &[(Name, Member)], shorter: &Span, marked: &mut Span) -> Result<Vec<Kept>, String> {
+    let relevant: Vec<&(Name, Member)> = placed.iter().filter(|(_, member)| !shorter.holds(member.2)).collect();
+    let sets: Vec<u128> = relevant.iter().map(|(_, member)| member.2).collect();
+    let mut families: BTreeMap<Name, Vec<(&Member, usize)>> = BTreeMap::new();
+    for ((name, member), group) in relevant.into_iter().zip(groups(shorter, &sets)) {
+        families.entry(*name).or_default().push((member, group));
+    }
+    families.iter().map(|(name, members)| kept(*name, members, marked)).collect()
+}
+
 /// The listing; none if there are too many rings to search out.
 pub fn listing(c: &Compound) -> Result<Option<Listing>, String> {
-    let near: Vec<Vec<usize>> = (0..c.n).map(|a| (0..c.n).filter(|b| c.bonded(a, *b)).collect()).collect();
-    let mut steps = 0;
-    let mut shorter = Span::default();
-    let mut marked = Span::default();
-    let mut kept: Vec<Kept> = Vec::new();
+    let mut search = Search { near: c.neighbours(), back: Vec::new(), path: Vec::new(), found: Vec::new(), steps: 0 };
+    let (mut marked, mut shorter) = (Span::default(), Span::default());
+    let mut all: Vec<Kept> = Vec::new();
     let mut length = 3;
     // When the rings so far sum to every closed set, no longer ring is relevant.
     while shorter.rank() < c.cyclomatic() {
-        let mut rings = Vec::new();
-        for first in 0..c.n {
-            let mut search = Search { near: &near, back: distances(&near, first), path: vec![first], found: Vec::new(), steps };
-            search.extend(length);
-            steps = search.steps;
-            if steps > STEPS {
-                return Ok(None);
-            }
-            rings.extend(search.found);
-        }
-        let placed: Vec<_> = rings.iter().map(|ring| place(c, ring)).collect();
-        let relevant: Vec<_> = placed.iter().filter(|(_, m)| !shorter.holds(m.2)).collect();
-        let sets: Vec<u128> = relevant.iter().map(|(_, m)| m.2).collect();
-        let group = groups(&shorter, &sets);
-
-        let mut families: BTreeMap<(usize, usize, usize, usize, usize), Vec<(&Member, usize)>> = BTreeMap::new();
-        for (i, (key, member)) in relevant.iter().enumerate() {
-            families.entry(*key).or_default().push((member, group[i]));
-        }
-        for ((length, r, x, p, q), members) in families {
-            // The lowest-numbered step each time makes the first path in the order of atom numbers.
-            let (prototype, group) = members.iter().min().unwrap();
-            if members.iter().any(|(_, g)| g != group) {
-                return Err("members of one family are in two classes".into());
-            }
-            let mark = marked.add(prototype.2);
-            // Groups of different lengths are kept apart.
-            kept.push(Kept { length, r, p, q, x, mark, group: group + (length << 32), size: members.len() as u128 });
-        }
-        for (_, member) in &placed {
-            shorter.add(member.2);
-        }
+        let Some(rings) = search.rings(length) else { return Ok(None) };
+        let placed: Vec<(Name, Member)> = rings.iter().map(|ring| place(c, ring)).collect();
+        all.extend(kept_of_length(&placed, &shorter, &mut marked)?);
+        shorter.add_all(placed.iter().map(|(_, member)| member.2));
         length += 1;
     }
-    Ok(Some(Listing::new(c.cyclomatic(), &kept)))
+    Ok(Some(Listing::new(c.cyclomatic(), &all)))
 }

@@ -2,7 +2,7 @@
 //! Bond sets are all tried, sums are all written out, families are searched for among the rings, and the minimum
 //! bases are all listed, so nothing here rests on linear algebra or on a theorem.
 
-use crate::compound::{Compound, Kept, Listing};
+use crate::compound::{numbers_in, Compound, Kept, Listing, ODD};
 
 /// Beyond this many minimum bases the classes are left to the other judges.
 const BASES: usize = 60_000;
@@ -42,6 +42,12 @@ impl Sums {
         }
         before
     }
+    fn add_all(&mut self, sets: &[u32]) {
+        for set in sets {
+            self.add(*set);
+        }
+    }
+    /// Takes back what was added since there were so many sums.
     fn back_to(&mut self, before: usize) {
         for sum in self.all.drain(before..) {
             self.known[sum as usize] = false;
@@ -51,26 +57,8 @@ impl Sums {
 
 impl<'a> Literal<'a> {
     fn new(c: &'a Compound) -> Literal<'a> {
-        let far = c.n;
-        let mut touch = vec![0u32; c.n];
-        let mut distance = vec![vec![far; c.n]; c.n];
-        for (k, &(a, b)) in c.bonds.iter().enumerate() {
-            touch[a] |= 1 << k;
-            touch[b] |= 1 << k;
-            distance[a][b] = 1;
-            distance[b][a] = 1;
-        }
-        for v in 0..c.n {
-            distance[v][v] = 0;
-        }
-        for v in 0..c.n {
-            for a in 0..c.n {
-                for b in 0..c.n {
-                    distance[a][b] = distance[a][b].min(distance[a][v] + distance[v][b]);
-                }
-            }
-        }
-        Literal { c, touch, distance }
+        let touch = |v: usize| (0..c.bonds.len()).filter(|k| c.bonds[*k].0 == v || c.bonds[*k].1 == v).fold(0, |set, k| set | 1 << k);
+        Literal { c, touch: (0..c.n).map(touch).collect(), distance: distances(c) }
     }
 
     fn closed(&self, set: u32) -> bool {
@@ -82,16 +70,17 @@ impl<'a> Literal<'a> {
         if set == 0 || !self.touch.iter().all(|t| matches!((set & t).count_ones(), 0 | 2)) {
             return false;
         }
-        let mut reached = 1u32 << set.trailing_zeros();
-        loop {
-            let before = reached;
-            for t in self.touch.iter().filter(|t| *t & before != 0) {
-                reached |= set & t;
-            }
-            if reached == before {
-                return reached == set;
-            }
+        let (mut reached, mut before) = (1u32 << set.trailing_zeros(), 0);
+        while reached != before {
+            before = reached;
+            reached = self.touch.iter().filter(|t| *t & before != 0).fold(before, |sum, t| sum | set & t);
         }
+        reached == set
+    }
+
+    /// Whether s is a neighbour of t that is nearer to r by one.
+    fn nearer(&self, s: usize, t: usize, r: usize) -> bool {
+        self.c.bonded(t, s) && self.distance[s][r] + 1 == self.distance[t][r]
     }
 
     /// All shortest paths from t to r, each as its atoms from t to r.
@@ -99,17 +88,8 @@ impl<'a> Literal<'a> {
         if t == r {
             return vec![vec![r]];
         }
-        let mut all = Vec::new();
-        for s in 0..self.c.n {
-            if self.c.bonded(t, s) && self.distance[s][r] + 1 == self.distance[t][r] {
-                for rest in self.shortest_paths(s, r) {
-                    let mut path = vec![t];
-                    path.extend(rest);
-                    all.push(path);
-                }
-            }
-        }
-        all
+        let next = (0..self.c.n).filter(|s| self.nearer(*s, t, r));
+        next.flat_map(|s| self.shortest_paths(s, r)).map(|rest| [vec![t], rest].concat()).collect()
     }
 
     /// The shortest paths from t to r whose atoms other than r precede r.
@@ -128,9 +108,8 @@ impl<'a> Literal<'a> {
         let mut path = vec![t];
         let mut at = t;
         while at != r {
-            at = (0..self.c.n)
-                .find(|&s| self.c.bonded(at, s) && self.distance[s][r] + 1 == self.distance[at][r] && (s == r || self.under(s, r)))
-                .expect("an atom under r has a next atom");
+            let allowed = |s: &usize| self.nearer(*s, at, r) && (*s == r || self.under(*s, r));
+            at = (0..self.c.n).find(allowed).expect("an atom under r has a next atom");
             path.push(at);
         }
         path
@@ -139,6 +118,19 @@ impl<'a> Literal<'a> {
     fn bonds_of(&self, path: &[usize]) -> u32 {
         path.windows(2).fold(0, |set, w| set | 1 << self.c.bond(w[0], w[1]).unwrap())
     }
+}
+
+/// Distances in the whole compound, by allowing one atom after the other as a station.
+fn distances(c: &Compound) -> Vec<Vec<usize>> {
+    let row = |of: &dyn Fn(usize) -> usize| -> Vec<usize> { (0..c.n).map(of).collect() };
+    let direct = |a: usize, b: usize| match (a == b, c.bonded(a, b)) {
+        (true, _) => 0,
+        (_, true) => 1,
+        // No path is as long as the number of atoms.
+        _ => c.n,
+    };
+    let all_direct: Vec<Vec<usize>> = (0..c.n).map(|a| row(&|b| direct(a, b))).collect();
+    (0..c.n).fold(all_direct, |d, v| (0..c.n).map(|a| row(&|b| d[a][b].min(d[a][v] + d[v][b]))).collect())
 }
 
 /// A candidate that is not dropped.
@@ -155,32 +147,30 @@ struct Candidate {
 
 /// All candidates in row order.
 fn candidates(l: &Literal) -> Vec<Candidate> {
-    let n = l.c.n;
-    let mut all = Vec::new();
-    for r in 0..n {
-        for p in (0..n).filter(|p| l.under(*p, r)) {
-            for q in (p + 1..n).filter(|q| l.under(*q, r) && l.distance[*q][r] == l.distance[p][r]) {
-                let d = l.distance[p][r];
-                let (path_p, path_q) = (l.chosen_path(p, r), l.chosen_path(q, r));
-                if path_p.iter().any(|a| *a != r && path_q.contains(a)) {
-                    continue;
-                }
-                let paths = l.bonds_of(&path_p) | l.bonds_of(&path_q);
-                if l.c.bonded(p, q) {
-                    let link = l.bonds_of(&[p, q]);
-                    all.push(Candidate { length: 2 * d + 1, r, p, q, x: 255, link, prototype: paths | link });
-                }
-                for x in (0..n).filter(|x| l.under(*x, r) && l.distance[*x][r] == d + 1) {
-                    if l.c.bonded(p, x) && l.c.bonded(x, q) {
-                        let link = l.bonds_of(&[p, x, q]);
-                        all.push(Candidate { length: 2 * d + 2, r, p, q, x, link, prototype: paths | link });
-                    }
-                }
-            }
-        }
-    }
+    let mut all: Vec<Candidate> = (0..l.c.n).flat_map(|r| of_top(l, r)).collect();
     all.sort_by_key(|f| (f.length, f.r, f.x, f.p, f.q));
     all
+}
+
+/// The candidates with top atom r.
+fn of_top(l: &Literal, r: usize) -> Vec<Candidate> {
+    let under: Vec<usize> = (0..l.c.n).filter(|t| l.under(*t, r)).collect();
+    let ends = under.iter().flat_map(|p| under.iter().map(move |q| (*p, *q)));
+    ends.filter(|&(p, q)| p < q && l.distance[p][r] == l.distance[q][r]).flat_map(|(p, q)| of_ends(l, &under, r, p, q)).collect()
+}
+
+/// The candidates with top atom r in which p and q, both at one distance from r, are the ends of the paths.
+fn of_ends(l: &Literal, under: &[usize], r: usize, p: usize, q: usize) -> Vec<Candidate> {
+    let (path_p, path_q) = (l.chosen_path(p, r), l.chosen_path(q, r));
+    if path_p.iter().any(|a| *a != r && path_q.contains(a)) {
+        return Vec::new();
+    }
+    let paths = l.bonds_of(&path_p) | l.bonds_of(&path_q);
+    let d = l.distance[p][r];
+    let candidate = |length: usize, x: usize, link: u32| Candidate { length, r, p, q, x, link, prototype: paths | link };
+    let odd = l.c.bonded(p, q).then(|| candidate(2 * d + 1, ODD, l.bonds_of(&[p, q])));
+    let opposite = under.iter().filter(|&&x| l.distance[x][r] == d + 1 && l.c.bonded(p, x) && l.c.bonded(x, q));
+    odd.into_iter().chain(opposite.map(|&x| candidate(2 * d + 2, x, l.bonds_of(&[p, x, q])))).collect()
 }
 
 /// The members of a family among the rings: of its length, through r and the link, made up with down paths.
@@ -231,43 +221,76 @@ impl<'a> Bases<'a> {
 
 /// For each relevant ring the relevant rings that it is interchangeable with, by swaps between minimum bases.
 fn interchangeable(bases: &[Vec<u32>], relevant: &[u32]) -> Result<Vec<u64>, String> {
-    let mut swaps: Vec<(u64, usize)> = Vec::new();
+    let mut with: Vec<u64> = (0..relevant.len()).map(|i| 1 << i).collect();
+    // Bases that are the same but for one ring: each of these rings can be put for each other.
+    for same in swaps(bases, relevant)?.chunk_by(|a, b| a.0 == b.0) {
+        let all = same.iter().fold(0, |all, (_, i)| all | 1 << i);
+        numbers_in(all as u128).for_each(|i| with[i] |= all);
+    }
+    check_equivalence(&with, relevant)?;
+    Ok(with)
+}
+
+/// Each minimum basis without each of its rings, and that ring, sorted; rings are numbered as the relevant ones are.
+fn swaps(bases: &[Vec<u32>], relevant: &[u32]) -> Result<Vec<(u64, usize)>, String> {
+    let mut swaps = Vec::new();
     for basis in bases {
-        let mut set = 0u64;
-        for ring in basis {
-            let i = relevant.iter().position(|x| x == ring).ok_or("a minimum basis holds a set that is no relevant ring")?;
-            set |= 1 << i;
-        }
-        for i in (0..relevant.len()).filter(|i| set >> i & 1 == 1) {
-            swaps.push((set & !(1 << i), i));
-        }
+        let numbers: Option<Vec<usize>> = basis.iter().map(|ring| relevant.iter().position(|x| x == ring)).collect();
+        let numbers = numbers.ok_or("a minimum basis holds a set that is no relevant ring")?;
+        let set = numbers.iter().fold(0u64, |set, i| set | 1 << i);
+        swaps.extend(numbers.iter().map(|i| (set & !(1 << i), *i)));
     }
     swaps.sort_unstable();
-    let mut with: Vec<u64> = (0..relevant.len()).map(|i| 1 << i).collect();
-    let mut from = 0;
-    while from < swaps.len() {
-        let mut end = from;
-        let mut all = 0u64;
-        while end < swaps.len() && swaps[end].0 == swaps[from].0 {
-            all |= 1 << swaps[end].1;
-            end += 1;
+    Ok(swaps)
+}
+
+/// Interchangeable rings must be interchangeable with the same rings, and of one length.
+fn check_equivalence(with: &[u64], relevant: &[u32]) -> Result<(), String> {
+    for (i, j) in (0..with.len()).flat_map(|i| numbers_in(with[i] as u128).map(move |j| (i, j))) {
+        if with[j] != with[i] {
+            return Err("interchangeability is no equivalence".into());
         }
-        for i in (0..relevant.len()).filter(|i| all >> i & 1 == 1) {
-            with[i] |= all;
-        }
-        from = end;
-    }
-    for i in 0..relevant.len() {
-        for j in (0..relevant.len()).filter(|j| with[i] >> j & 1 == 1) {
-            if with[j] != with[i] {
-                return Err("interchangeability is no equivalence".into());
-            }
-            if relevant[i].count_ones() != relevant[j].count_ones() {
-                return Err("interchangeable rings of two lengths".into());
-            }
+        if relevant[i].count_ones() != relevant[j].count_ones() {
+            return Err("interchangeable rings of two lengths".into());
         }
     }
-    Ok(with)
+    Ok(())
+}
+
+/// The rings, in order of length, that no set of strictly shorter rings sums to.
+fn relevant_of(rings: &[u32], bonds: usize) -> Vec<u32> {
+    let mut relevant = Vec::new();
+    let mut shorter = Sums::none(bonds);
+    for of_length in rings.chunk_by(|a, b| a.count_ones() == b.count_ones()) {
+        relevant.extend(of_length.iter().filter(|ring| !shorter.holds(**ring)));
+        shorter.add_all(of_length);
+    }
+    relevant
+}
+
+/// The kept families, each held to its members: all are relevant and of one class, and each relevant ring is in one family.
+fn kept_families(l: &Literal, rings: &[u32], relevant: &[u32], with: &[u64]) -> Result<Vec<Kept>, String> {
+    let mut kept = Vec::new();
+    let mut marked = Sums::none(l.c.bonds.len());
+    let mut placed: Vec<usize> = Vec::new();
+    for f in candidates(l).iter().filter(|f| relevant.contains(&f.prototype)) {
+        let numbers: Option<Vec<usize>> = members(l, f, rings).iter().map(|ring| relevant.iter().position(|s| s == ring)).collect();
+        let numbers = numbers.ok_or("a member of a kept family is not relevant")?;
+        let group = with[relevant.iter().position(|s| *s == f.prototype).unwrap()].trailing_zeros();
+        if numbers.iter().any(|i| with[*i].trailing_zeros() != group) {
+            return Err("members of one family are in two classes".into());
+        }
+        let mark = !marked.holds(f.prototype);
+        marked.add(f.prototype);
+        let size = numbers.len() as u128;
+        kept.push(Kept { length: f.length, r: f.r, p: f.p, q: f.q, x: f.x, mark, group: group as usize, size });
+        placed.extend(numbers);
+    }
+    placed.sort_unstable();
+    if !placed.into_iter().eq(0..relevant.len()) {
+        return Err("a relevant ring is not in exactly one kept family".into());
+    }
+    Ok(kept)
 }
 
 /// The listing, and whether its classes were found here (there may be too many minimum bases).
@@ -277,48 +300,15 @@ pub fn listing(c: &Compound) -> Result<(Listing, bool), String> {
     let mut closed: Vec<u32> = (1..1u32 << bonds).filter(|s| l.closed(*s)).collect();
     closed.sort_by_key(|s| (s.count_ones(), *s));
     let rings: Vec<u32> = closed.iter().copied().filter(|s| l.ring(*s)).collect();
+    let relevant = relevant_of(&rings, bonds);
 
-    let mut relevant = Vec::new();
-    let mut shorter = Sums::none(bonds);
-    for length in 3..=c.n as u32 {
-        let of_length: Vec<u32> = rings.iter().copied().filter(|s| s.count_ones() == length).collect();
-        relevant.extend(of_length.iter().copied().filter(|s| !shorter.holds(*s)));
-        for ring in of_length {
-            shorter.add(ring);
-        }
-    }
+    let mut bases = Bases { closed: &closed, best: u32::MAX, found: Vec::new(), chosen: Vec::new(), sums: Sums::none(bonds) };
+    bases.search(0, c.cyclomatic(), 0);
+    let all_found = bases.found.len() <= BASES && relevant.len() <= 64;
+    let with = if all_found { interchangeable(&bases.found, &relevant)? } else { vec![0; relevant.len()] };
 
-    let cyclomatic = c.cyclomatic();
-    let mut search = Bases { closed: &closed, best: u32::MAX, found: Vec::new(), chosen: Vec::new(), sums: Sums::none(bonds) };
-    search.search(0, cyclomatic, 0);
-    let all_found = search.found.len() <= BASES && relevant.len() <= 64;
-    let with = if all_found { interchangeable(&search.found, &relevant)? } else { vec![0; relevant.len()] };
-
-    let mut kept = Vec::new();
-    let mut marked = Sums::none(bonds);
-    let mut in_families = vec![0usize; relevant.len()];
-    for f in candidates(&l) {
-        if !relevant.contains(&f.prototype) {
-            continue;
-        }
-        let members = members(&l, &f, &rings);
-        let group = with[relevant.iter().position(|s| *s == f.prototype).unwrap()].trailing_zeros() as usize;
-        for ring in &members {
-            let i = relevant.iter().position(|s| s == ring).ok_or("a member of a kept family is not relevant")?;
-            in_families[i] += 1;
-            if with[i].trailing_zeros() as usize != group {
-                return Err("members of one family are in two classes".into());
-            }
-        }
-        let mark = !marked.holds(f.prototype);
-        marked.add(f.prototype);
-        kept.push(Kept { length: f.length, r: f.r, p: f.p, q: f.q, x: f.x, mark, group, size: members.len() as u128 });
-    }
-    if in_families.iter().any(|times| *times != 1) {
-        return Err("a relevant ring is not in exactly one kept family".into());
-    }
-    let listing = Listing::new(cyclomatic, &kept);
-    if search.best as u64 != listing.total && cyclomatic > 0 {
+    let listing = Listing::new(c.cyclomatic(), &kept_families(&l, &rings, &relevant, &with)?);
+    if bases.best as u64 != listing.total && c.cyclomatic() > 0 {
         return Err("the marked rings have not the least total".into());
     }
     Ok((listing, all_found))

@@ -1,8 +1,9 @@
 //! The third judge, for compounds of any size: a plain engine. Horton's rings give a minimum basis; its members shorter
 //! than k sum to everything that the rings shorter than k sum to, so they decide relevance. Sizes are counted by paths.
 
-use crate::compound::{Compound, Kept, Listing};
+use crate::compound::{numbers_in, Compound, Kept, Listing, ODD};
 use crate::span::{Groups, Span};
+use std::collections::VecDeque;
 
 struct Graph<'a> {
     c: &'a Compound,
@@ -14,35 +15,9 @@ struct Graph<'a> {
 
 impl<'a> Graph<'a> {
     fn new(c: &'a Compound) -> Graph<'a> {
-        let mut near = vec![Vec::new(); c.n];
-        let mut bond = vec![vec![0; c.n]; c.n];
-        for (k, &(a, b)) in c.bonds.iter().enumerate() {
-            near[a].push(b);
-            near[b].push(a);
-            bond[a][b] = 1 << k;
-            bond[b][a] = 1 << k;
-        }
-        for list in near.iter_mut() {
-            list.sort_unstable();
-        }
-        let mut distance = vec![vec![usize::MAX; c.n]; c.n];
-        for r in 0..c.n {
-            let from_r = &mut distance[r];
-            from_r[r] = 0;
-            let mut edge = vec![r];
-            while !edge.is_empty() {
-                let mut next = Vec::new();
-                for a in edge {
-                    for &b in &near[a] {
-                        if from_r[b] == usize::MAX {
-                            from_r[b] = from_r[a] + 1;
-                            next.push(b);
-                        }
-                    }
-                }
-                edge = next;
-            }
-        }
+        let near = c.neighbours();
+        let bond = (0..c.n).map(|a| (0..c.n).map(|b| c.bond(a, b).map_or(0, |k| 1 << k)).collect()).collect();
+        let distance = (0..c.n).map(|r| distances(&near, r)).collect();
         Graph { c, near, bond, distance }
     }
 
@@ -58,20 +33,19 @@ impl<'a> Graph<'a> {
     }
 
     fn bonds_of(&self, path: &[usize]) -> u128 {
-        path.windows(2).map(|w| self.bond[w[0]][w[1]]).fold(0, |a, b| a ^ b)
+        path.windows(2).fold(0, |set, w| set ^ self.bond[w[0]][w[1]])
     }
 
-    /// Horton's minimum basis in order of length: every atom, every bond, one shortest path from each end to the atom.
+    /// Horton's rings for one atom: every bond, and one shortest path from each of its ends to the atom.
+    fn horton_rings(&self, v: usize) -> Vec<u128> {
+        let path: Vec<Vec<usize>> = (0..self.c.n).map(|t| self.path(t, v, &|_| true)).collect();
+        let apart = self.c.bonds.iter().filter(|(a, b)| meet_only_at(v, &path[*a], &path[*b]));
+        apart.map(|&(a, b)| self.bonds_of(&path[a]) ^ self.bonds_of(&path[b]) ^ self.bond[a][b]).collect()
+    }
+
+    /// Horton's minimum basis in order of length.
     fn horton(&self) -> Vec<u128> {
-        let mut rings = Vec::new();
-        for v in 0..self.c.n {
-            let path: Vec<Vec<usize>> = (0..self.c.n).map(|t| self.path(t, v, &|_| true)).collect();
-            for &(a, b) in &self.c.bonds {
-                if path[a].iter().all(|x| *x == v || !path[b].contains(x)) {
-                    rings.push(self.bonds_of(&path[a]) ^ self.bonds_of(&path[b]) ^ self.bond[a][b]);
-                }
-            }
-        }
+        let mut rings: Vec<u128> = (0..self.c.n).flat_map(|v| self.horton_rings(v)).collect();
         rings.retain(|ring| *ring != 0);
         rings.sort_unstable_by_key(|ring| (ring.count_ones(), *ring));
         rings.dedup();
@@ -81,96 +55,115 @@ impl<'a> Graph<'a> {
     }
 }
 
-/// For a top atom r, the number of down paths from each atom: 0 from those that are not under r.
-fn down_paths(g: &Graph, r: usize) -> Vec<u128> {
-    let mut paths = vec![0u128; g.c.n];
-    paths[r] = 1;
-    let mut order: Vec<usize> = (0..r).collect();
-    order.sort_by_key(|t| g.distance[r][*t]);
-    for t in order {
-        paths[t] = g.near[t].iter().filter(|s| g.distance[r][**s] < g.distance[r][t]).map(|s| paths[*s]).sum();
-    }
-    paths
-}
-
-/// A candidate that is not dropped: row fields in row order, its prototype, and the size it would have.
-type Candidate = ((usize, usize, usize, usize, usize), u128, u128);
-
-fn candidates(g: &Graph) -> Vec<Candidate> {
-    let mut all = Vec::new();
-    for r in 0..g.c.n {
-        let paths = down_paths(g, r);
-        let under = |t: usize| t < r && paths[t] > 0;
-        let mut propose = |p: usize, q: usize, x: usize, length: usize, link: u128| {
-            let allowed = |s: usize| s == r || under(s);
-            let (path_p, path_q) = (g.path(p, r, &allowed), g.path(q, r, &allowed));
-            if path_p.iter().all(|a| *a == r || !path_q.contains(a)) {
-                let prototype = g.bonds_of(&path_p) ^ g.bonds_of(&path_q) ^ link;
-                all.push(((length, r, x, p, q), prototype, paths[p] * paths[q]));
-            }
-        };
-        for x in (0..r).filter(|x| under(*x)) {
-            let d = g.distance[r][x];
-            let ends: Vec<usize> = g.near[x].iter().copied().filter(|p| under(*p)).collect();
-            for &q in ends.iter().filter(|q| **q > x && g.distance[r][**q] == d) {
-                propose(x, q, 255, 2 * d + 1, g.bond[x][q]);
-            }
-            for (i, &p) in ends.iter().enumerate() {
-                for &q in &ends[i + 1..] {
-                    if g.distance[r][p] + 1 == d && g.distance[r][q] + 1 == d {
-                        propose(p, q, x, 2 * d, g.bond[p][x] ^ g.bond[x][q]);
-                    }
-                }
+/// Distances from an atom, atom by atom from a queue.
+fn distances(near: &[Vec<usize>], r: usize) -> Vec<usize> {
+    let mut distance = vec![usize::MAX; near.len()];
+    distance[r] = 0;
+    let mut queue = VecDeque::from([r]);
+    while let Some(a) = queue.pop_front() {
+        for &b in &near[a] {
+            if distance[b] == usize::MAX {
+                distance[b] = distance[a] + 1;
+                queue.push_back(b);
             }
         }
     }
+    distance
+}
+
+/// Whether two paths to an atom share no atom but that one.
+fn meet_only_at(r: usize, path_p: &[usize], path_q: &[usize]) -> bool {
+    path_p.iter().all(|a| *a == r || !path_q.contains(a))
+}
+
+/// A candidate that is not dropped: length, r, x, p and q in row order, its prototype, and the size that its family would have.
+type Candidate = ((usize, usize, usize, usize, usize), u128, u128);
+
+/// A top atom r, and from each atom the number of shortest paths to r whose atoms other than r precede r.
+struct Top<'a> {
+    g: &'a Graph<'a>,
+    r: usize,
+    paths: Vec<u128>,
+}
+
+impl<'a> Top<'a> {
+    fn new(g: &'a Graph<'a>, r: usize) -> Top<'a> {
+        let distance = &g.distance[r];
+        let mut paths = vec![0u128; g.c.n];
+        paths[r] = 1;
+        let mut order: Vec<usize> = (0..r).collect();
+        order.sort_by_key(|t| distance[*t]);
+        for t in order {
+            paths[t] = g.near[t].iter().filter(|s| distance[**s] < distance[t]).map(|s| paths[*s]).sum();
+        }
+        Top { g, r, paths }
+    }
+
+    fn under(&self, t: usize) -> bool {
+        t < self.r && self.paths[t] > 0
+    }
+
+    /// The candidate of p and q, unless it is dropped; the link is the path from p to q that does not go through r.
+    fn candidate(&self, x: usize, length: usize, link: &[usize]) -> Option<Candidate> {
+        let (g, r, p, q) = (self.g, self.r, link[0], link[link.len() - 1]);
+        let allowed = |s: usize| s == r || self.under(s);
+        let (path_p, path_q) = (g.path(p, r, &allowed), g.path(q, r, &allowed));
+        let prototype = || g.bonds_of(&path_p) ^ g.bonds_of(&path_q) ^ g.bonds_of(link);
+        meet_only_at(r, &path_p, &path_q).then(|| ((length, r, x, p, q), prototype(), self.paths[p] * self.paths[q]))
+    }
+
+    /// The candidates in which an atom under r is p of an odd one or x of an even one.
+    fn candidates(&self, x: usize) -> Vec<Candidate> {
+        let distance = &self.g.distance[self.r];
+        let d = distance[x];
+        let ends: Vec<usize> = self.g.near[x].iter().copied().filter(|p| self.under(*p) && distance[*p] <= d).collect();
+        let odd = ends.iter().filter(|q| **q > x && distance[**q] == d).map(|q| self.candidate(ODD, 2 * d + 1, &[x, *q]));
+        let nearer = ends.iter().filter(|p| distance[**p] < d);
+        let pairs = nearer.clone().flat_map(|p| nearer.clone().filter(move |q| p < q).map(move |q| (*p, *q)));
+        odd.chain(pairs.map(|(p, q)| self.candidate(x, 2 * d, &[p, x, q]))).flatten().collect()
+    }
+}
+
+/// All candidates in row order.
+fn candidates(g: &Graph) -> Vec<Candidate> {
+    let of_top = |top: Top| -> Vec<Candidate> { (0..top.r).filter(|x| top.under(*x)).flat_map(|x| top.candidates(x)).collect() };
+    let mut all: Vec<Candidate> = (0..g.c.n).flat_map(|r| of_top(Top::new(g, r))).collect();
     all.sort_unstable();
     all
 }
 
+/// Adds Horton's rings up to a length; those that the span has already are its members, in their order.
+fn add_up_to(length: usize, horton: &[u128], span: &mut Span) {
+    span.add_all(horton[span.rank()..].iter().copied().take_while(|ring| ring.count_ones() as usize <= length));
+}
+
+/// The kept ones among the candidates of one length; `shorter` is the span of Horton's shorter rings.
+fn kept_of_length(candidates: &[Candidate], horton: &[u128], shorter: &Span, marked: &mut Span) -> Vec<Kept> {
+    let mut span = shorter.clone();
+    add_up_to(candidates[0].0 .0, horton, &mut span);
+    let mut groups = Groups::new(horton.len());
+    let relevant = candidates.iter().filter(|(_, prototype, _)| !shorter.holds(*prototype));
+    let mut kept: Vec<Kept> = Vec::new();
+    for &((length, r, x, p, q), prototype, size) in relevant {
+        // Horton's rings of this length are relevant, so a kept prototype is in one class with each of them that it needs.
+        let used = span.members(prototype).expect("Horton's rings sum to every closed set");
+        let needed = used >> shorter.rank() << shorter.rank();
+        let first = needed.trailing_zeros() as usize;
+        groups.join(first, numbers_in(needed));
+        kept.push(Kept { length, r, p, q, x, mark: marked.add(prototype), group: first, size });
+    }
+    kept.into_iter().map(|f| Kept { group: groups.of(f.group), ..f }).collect()
+}
+
+/// The listing.
 pub fn listing(c: &Compound) -> Listing {
     let g = Graph::new(c);
     let horton = g.horton();
     let mut kept: Vec<Kept> = Vec::new();
-    let mut marked = Span::default();
-    // The sums of Horton's rings shorter than the length in hand, and how many these are.
-    let mut shorter = Span::default();
-    let all = candidates(&g);
-    let mut from = 0;
-    while from < all.len() {
-        let length = all[from].0 .0;
-        let end = from + all[from..].iter().take_while(|f| f.0 .0 == length).count();
-        while shorter.rank() < horton.len() && (horton[shorter.rank()].count_ones() as usize) < length {
-            let next = horton[shorter.rank()];
-            shorter.add(next);
-        }
-        // Horton's rings of this length are relevant, so a kept prototype is in one class with each of them that it needs.
-        let mut span = shorter.clone();
-        while span.rank() < horton.len() && horton[span.rank()].count_ones() as usize == length {
-            let next = horton[span.rank()];
-            span.add(next);
-        }
-        let mut groups = Groups::new(horton.len());
-        let mut of_length = Vec::new();
-        for ((length, r, x, p, q), prototype, size) in &all[from..end] {
-            if !shorter.holds(*prototype) {
-                let used = span.members(*prototype).expect("Horton's rings sum to every closed set");
-                let own = used >> shorter.rank();
-                let first = shorter.rank() + own.trailing_zeros() as usize;
-                for i in shorter.rank()..span.rank() {
-                    if used >> i & 1 == 1 {
-                        groups.join(i, first);
-                    }
-                }
-                let mark = marked.add(*prototype);
-                of_length.push(Kept { length: *length, r: *r, p: *p, q: *q, x: *x, mark, group: first, size: *size });
-            }
-        }
-        for mut f in of_length {
-            f.group = groups.of(f.group);
-            kept.push(f);
-        }
-        from = end;
+    let (mut marked, mut shorter) = (Span::default(), Span::default());
+    for of_length in candidates(&g).chunk_by(|a, b| a.0 .0 == b.0 .0) {
+        add_up_to(of_length[0].0 .0 - 1, &horton, &mut shorter);
+        kept.extend(kept_of_length(of_length, &horton, &shorter, &mut marked));
     }
     Listing::new(c.cyclomatic(), &kept)
 }

@@ -8,6 +8,7 @@ pub struct Span {
 }
 
 impl Span {
+    /// The number of members.
     pub fn rank(&self) -> usize {
         self.rows.len()
     }
@@ -24,6 +25,7 @@ impl Span {
         (rest, used)
     }
 
+    /// Whether a set is a sum of members.
     pub fn holds(&self, set: u128) -> bool {
         self.reduce(set).0 == 0
     }
@@ -31,11 +33,7 @@ impl Span {
     /// The members that sum to a set, if it is a sum.
     pub fn members(&self, set: u128) -> Option<u128> {
         let (rest, used) = self.reduce(set);
-        if rest == 0 {
-            Some(used)
-        } else {
-            None
-        }
+        (rest == 0).then_some(used)
     }
 
     /// Adds a set; tells whether it became a member.
@@ -49,15 +47,24 @@ impl Span {
         self.rows.sort_unstable_by(|a, b| b.0.cmp(&a.0));
         true
     }
+
+    /// Adds sets one after the other.
+    pub fn add_all(&mut self, sets: impl Iterator<Item = u128>) {
+        for set in sets {
+            self.add(set);
+        }
+    }
 }
 
 /// Numbers that can be joined into groups.
 pub struct Groups(Vec<usize>);
 
 impl Groups {
+    /// The numbers below a count, each a group of its own.
     pub fn new(count: usize) -> Groups {
         Groups((0..count).collect())
     }
+    /// The number that stands for the group of a number.
     pub fn of(&self, i: usize) -> usize {
         if self.0[i] == i {
             i
@@ -65,8 +72,11 @@ impl Groups {
             self.of(self.0[i])
         }
     }
-    pub fn join(&mut self, i: usize, j: usize) {
-        let (a, b) = (self.of(i), self.of(j));
-        self.0[a] = b;
+    /// Joins the groups of other numbers to the group of i.
+    pub fn join(&mut self, i: usize, others: impl Iterator<Item = usize>) {
+        for j in others {
+            let (own, other) = (self.of(i), self.of(j));
+            self.0[other] = own;
+        }
     }
 }

@@ -7,14 +7,15 @@ use native.Mathlib.Omega.{arith}
 use lib.ListN.{length-append, length-map}
 use Rattle.spans.specs.Elements.{_∈_, Once}
 use Rattle.spans.specs.Basis.{All}
+use Rattle.spans.proofs.Lists.{in-left, in-right, in-append}
 use Rattle.cycles.specs.Compound.{Compound, Sound}
 use Rattle.cycles.specs.Ring.{Relevant}
 use Rattle.cycles.specs.Family.{Family, Member, Kept, Size}
 use Rattle.cycles.specs.Rows.{Row, Ascending, Report, Right, sizes}
 use Rattle.cycles.proofs.PathsDecide.{not-in-none}
 use Rattle.cycles.proofs.Families.{prototype-member}
-use Rattle.cycles.proofs.Members.{member-family-unique}
-use Rattle.cycles.proofs.MembersLists.{in-left, in-right, in-append, once-append}
+use Rattle.cycles.proofs.MembersCorners.{member-family}
+use Rattle.cycles.proofs.MembersLists.{once-append}
 use Rattle.cycles.proofs.Bases.{ascending-rest}
 use Rattle.cycles.proofs.Swaps.{interchangeable-same-length}
 use Rattle.cycles.proofs.Ranks.{in-map, at-exists, at-below, InRow, relevant-in-row, same-class-iff, class-rows-length, class-row-of, class-row-exists}
@@ -41,7 +42,7 @@ module _ (c : Compound) (sound : Sound c) (rank : ℕ → ℕ) (injective : (a b
   rows-apart : {f : Family} {rows : List Row} {C : ℕ} → Ascending (f ∷ map (λ row. row .family) rows) → Member c rank f C → InRow c rank rows C → ⊥
   rows-apart {rows} a m w =
       ascending-fresh a
-      (subst (λ (f : Family). f ∈ map (λ row. row .family) rows) (member-family-unique c sound rank injective (w .member) m)
+      (subst (λ (f : Family). f ∈ map (λ row. row .family) rows) (member-family c sound rank (w .member) m)
       (in-map (λ row. row .family) (w .listed)))
 
   -- The members of the families of the rows are as many as the sum of the sizes.

@@ -9,22 +9,23 @@ use Rattle.spans.proofs.Marking.{all-element}
 use Rattle.cycles.specs.Compound.{Compound}
 use Rattle.cycles.specs.Ring.{Relevant}
 use Rattle.cycles.specs.Family.{Family, Member, Kept, Size}
-use Rattle.cycles.specs.Rows.{Row, At, sizes}
+use Rattle.cycles.specs.Rows.{Row, key, Less, At, sizes}
 use Rattle.cycles.proofs.Ranks.{at-element, at-below}
 use Rattle.cycles.proofs.OneRow as OneRow
 use Rattle.cycles.proofs.OneRow.{row-member-relevant}
+use Rattle.cycles.proofs.Order as Order
 use Rattle.answers.specs.Answered.{full, familyBytes, classBytes, sizeOf, Answered}
 use Rattle.answers.specs.Bytes.{byte, familyAt, sumTo, Exactly, SpareKept, MemberAt, InOneRow}
 use Rattle.answers.proofs.Places.{length-familyBytes, length-classBytes, spare-kept, last-byte-row, sumTo-first}
 use Rattle.answers.proofs.Counts.{right-families, right-rings}
-use Rattle.answers.proofs.Reported.{Reported, reported, sound, families-length, classes-length, row-there, row-at, row-member}
+use Rattle.answers.proofs.Reported.{Reported, reported, sound, families-length, classes-length, row-there, row-at, row-kept, row-member}
 
 sizeOf-at : {rows : List Row} {k : ℕ} {row : Row} → At rows k row → sizeOf rows k ≡ row .size
 unfolding sizeOf
 sizeOf-at At.here = refl
 sizeOf-at (At.later a) = sizeOf-at a
 
-sizeOf-past : (rows : List Row) (k : ℕ) → length rows ≤ k → sizeOf rows k ≡ 0
+pub sizeOf-past : (rows : List Row) (k : ℕ) → length rows ≤ k → sizeOf rows k ≡ 0
 unfolding sizeOf
 sizeOf-past [] k h = refl
 sizeOf-past (row ∷ rows) zero h = absurd (omega arith)
@@ -95,7 +96,24 @@ module _ {n : ℕ} {bonds rows classRows : List ℕ} {i cyclomatic families clas
   pub rings-count-relevant : Exactly rings (Relevant c)
   rings-count-relevant = rw (told .rings-are) (right-rings c (sound told) (λ a. a) (λ a b h l e. e) (told .right))
 
-  -- Each kept family has its row: there are as many.
+  -- The families of the rows are kept ..
+  pub row-is-kept : (k : ℕ) → k < families → Kept c (λ a. a) (familyAt left k)
+  row-is-kept k h = let (row, t) = row-at told k h in subst (Kept c (λ a. a)) (sym (t .family)) (row-kept told (at-element (t .at)))
+
+  -- .. each kept family has a row ..
+  pub kept-has-row : {f : Family} → Kept c (λ a. a) f → (k : ℕ) × (k < families) × (familyAt left k ≡ f)
+  kept-has-row h =
+      let (k, row, a, e) = Order.kept-has-row c (λ a. a) (told .right) h in
+      (k, omega (arith, at-below a, families-length told), row-there told a .family ∙ e)
+
+  -- "Kept families are ordered by length, then r, then x (odd counts as 255), then p, then q."
+  pub rows-ascend : (j k : ℕ) → j < k → k < families → Less (key (familyAt left j)) (key (familyAt left k))
+  rows-ascend j k h l =
+      let (u, t) = row-at told j (omega arith) in
+      let (v, w) = row-at told k l in
+      rw (t .family, w .family) (Order.rows-ascend c (λ a. a) (told .right) (t .at) (w .at) h)
+
+  -- .. and there are as many rows as kept families.
   pub rows-count-kept : Exactly families (Kept c (λ a. a))
   rows-count-kept = rw (told .families-are) (right-families c (sound told) (λ a. a) (λ a b h l e. e) (told .right))
 

@@ -26,6 +26,7 @@ use Rattle.cycles.proofs.Ranks as Ranks
 use Rattle.cycles.proofs.Ranks.{at-element, at-exists, element-at, at-below, same-class-iff, class-row-exists, class-row-of}
 use Rattle.cycles.proofs.Ranks.{relative-rank-in-every-minimum, holding-iff}
 use Rattle.cycles.proofs.FirstMarked.{first-family-marked}
+use Rattle.cycles.proofs.Order.{class-numbers-ascend}
 use Rattle.answers.specs.Answered.{full, Answered}
 use Rattle.answers.specs.Bytes.{familyAt, markAt, classAt, longAt, rankAt, familiesAt, essentialAt, sumTo, rowsOf, MemberAt, ClassCount, OfClass, MarkedRows}
 use Rattle.answers.proofs.Places.{longAt-row, rankAt-row, familiesAt-row, essentialAt-row, sumTo-first}
@@ -256,7 +257,15 @@ module _ {n : ℕ} {bonds rows classRows : List ℕ} {i cyclomatic families clas
   pub mark-byte : (k : ℕ) → k < families → (markAt left k ≡ 0) ⊎ (markAt left k ≡ 1)
   mark-byte k h = marked-rows-mark c left k k h (omega arith) basis-rows
 
-  -- "Classes are numbered from 0 by their first family": the first row of a class is marked.
+  -- "Classes are numbered from 0 by their first family": every lower number has come up in an earlier row.
+  pub class-bytes-ascend : (k g : ℕ) → k < families → g < classAt left k → (j : ℕ) × (j < k) × (classAt left j ≡ g)
+  class-bytes-ascend k g h l =
+      let (row, t) = row-at told k h in
+      let lower : g < row .class = omega (arith, t .class) in
+      let (j, m, o) = class-numbers-ascend c (λ a. a) (told .right) (t .at) lower in
+      (j, m, row-there told (o .at) .class ∙ o .class)
+
+  -- The first row of a class is marked.
   pub first-of-class-marked : {g k : ℕ} → k < families → classAt left k ≡ g → ((j : ℕ) → j < k → classAt left j ≡ g → ⊥) → markAt left k ≡ 1
   first-of-class-marked {g} {k} h e first =
       let (row, t) = row-at told k h in

@@ -4,11 +4,11 @@ use mathlib.Core.List.{List}
 use Prim.Native.Nat.{ℕ, _<_, _≤_}
 use native.Mathlib.Omega.{arith}
 use Rattle.cycles.specs.Compound.{Compound}
-use Rattle.cycles.specs.Rows.{Report}
+use Rattle.cycles.specs.Rows.{Report, most}
 use Rattle.cycles.specs.Refusal.{Refused, Accepted}
 use Rattle.cycles.proofs.Unique.{right-unique}
 use Rattle.cycles.proofs.Refusals.{refused-unique, refused-not-accepted, accepted-sound}
-use Rattle.answers.specs.Answered.{Told, full, refused, familyBytes, classBytes, over, sizeOf, familyRoom, classRoom, most, RightReport, Answered}
+use Rattle.answers.specs.Answered.{Told, full, refused, familyBytes, classBytes, over, sizeOf, familyRoom, classRoom, RightReport, Answered}
 
 module _ (n : ℕ) (bonds rows classRows : List ℕ) (i : ℕ) where
   abbrev c : Compound

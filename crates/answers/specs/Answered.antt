@@ -3,7 +3,7 @@ use mathlib.Core.List.{List, [], _∷_, _++_}
 use Prim.Native.Nat.{ℕ, zero, suc, _/_, _%_, _<_, _≤_, min}
 use lib.ListN.{length, drop}
 use Rattle.cycles.specs.Compound.{Compound}
-use Rattle.cycles.specs.Rows.{Row, ClassRow, Report, Right}
+use Rattle.cycles.specs.Rows.{Row, ClassRow, Report, Right, most}
 use Rattle.cycles.specs.Refusal.{Refused, Accepted}
 
 -- The full answer's five numbers and the size asked for, or a refusal's number and "at".
@@ -32,19 +32,17 @@ sizeOf [] i = 0
 sizeOf (row ∷ rows) zero = row .size
 sizeOf (row ∷ rows) (suc i) = sizeOf rows i
 
--- "the lent rows (bytes / 8 rounded down, and at most 4,096)", "the lent rows (bytes / 5 rounded down)"
+-- "the lent rows (bytes / 8 rounded down, and at most 4,096)"
 abbrev pub familyRoom : List ℕ → ℕ
 familyRoom lent = min (length lent / 8) 4096
 
+-- "the lent rows (bytes / 5 rounded down)"
 abbrev pub classRoom : List ℕ → ℕ
 classRoom lent = length lent / 5
 
--- "rings would exceed 18,446,744,073,709,551,615"
-abbrev pub most : ℕ
-most = 18446744073709551615
-
 -- `Answered n bonds rows classRows i told left-rows left-classRows`: with the row number i (any, for the first call).
 module _ (n : ℕ) (bonds rows classRows : List ℕ) (i : ℕ) where
+  -- The input.
   abbrev pub compound : Compound
   compound = record { n = n; bytes = bonds }
 

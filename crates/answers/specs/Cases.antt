@@ -3,9 +3,9 @@ use mathlib.Core.Path.{_≡_}
 use mathlib.Core.List.{List}
 use Prim.Native.Nat.{ℕ, _<_, _≤_}
 use Rattle.cycles.specs.Compound.{Compound, m, OnePiece}
-use Rattle.cycles.specs.Rows.{Report}
+use Rattle.cycles.specs.Rows.{Report, most}
 use Rattle.cycles.specs.Refusal.{WrongAtoms, WrongBytes, NoAtom, Loop, Again, Fits, FineBelow, Accepted}
-use Rattle.answers.specs.Answered.{familyRoom, classRoom, most, RightReport}
+use Rattle.answers.specs.Answered.{familyRoom, classRoom, RightReport}
 
 module _ (n : ℕ) (bonds rows classRows : List ℕ) (i : ℕ) where
   abbrev c : Compound

@@ -9,8 +9,8 @@ use native.Mathlib.Decide.{decLt}
 use borrow.Author.Tests.{lt-ltb, le-ltb}
 use lib.Arith.{digits-lt, bin-ind, digits-mod, lt-one}
 use lib.Pow.{shr-lt, shl-shr, pow-pos, pow-lt, pow-mono, pow-add, high, low, field, mod-pow-add, mod-mod-pow, shr-shr}
-use lib.Bits.{bitXor, bitAnd, differ, xor-step, and-step, xor-shr, and-shr}
-use lib.Count.{ones, ones-step, ones-cat, trailingZeros, under}
+use lib.Bits.{bitXor, bitAnd, bitOr, differ, xor-comm, xor-self, xor-zero-r, xor-step, and-step, xor-shr, and-shr, or-disjoint, xor-disjoint}
+use lib.Count.{ones, ones-cat, trailingZeros, under}
 use Rattle.bondset.specs.Sets.{bit, single, lengthTo, Lowest}
 
 two-pos : zero < 2
@@ -34,6 +34,10 @@ bit-lt s k = mod-lt (s / 2 ^ k) two-pos
 differ-lt : (x y : ℕ) → x < 2 → y < 2 → differ x y < 2
 differ-lt x y hx hy =
     cases2 (λ (x : ℕ). differ x y < 2) hy (cases2 (λ (y : ℕ). differ 1 y < 2) (omega arith) (omega arith) y hy) x hx
+
+pub differ-zero : (x : ℕ) → differ x 0 ≡ x
+differ-zero zero = refl
+differ-zero (suc x) = refl
 
 min-lt : (x y : ℕ) → x < 2 → min x y < 2
 min-lt x y h = omega arith
@@ -103,34 +107,26 @@ xor-assoc a =
     ∙ ap₂ (λ (x y : ℕ). bitXor (n / 2) x * 2 + differ (n % 2) y) (sym (xor-shr b c 1)) (sym (xor-odd b c))
     ∙ sym (xor-step n (bitXor b c))) a
 
+pub xor-swap : (a b c d : ℕ) → bitXor (bitXor a b) (bitXor c d) ≡ bitXor (bitXor a c) (bitXor b d)
+xor-swap a b c d =
+    xor-assoc a b (bitXor c d)
+    ∙ ap (bitXor a) (sym (xor-assoc b c d) ∙ ap (λ (x : ℕ). bitXor x d) (xor-comm b c) ∙ xor-assoc c b d)
+    ∙ sym (xor-assoc a c (bitXor b d))
+
+pub xor-cancel : (a b : ℕ) → bitXor (bitXor a b) b ≡ a
+xor-cancel a b = xor-assoc a b b ∙ ap (bitXor a) (xor-self b) ∙ xor-zero-r a
+
 -- ---- lengths
 
 ones-bit : (r : ℕ) → r < 2 → ones r ≡ r
 unfolding ones
 ones-bit r h = cases2 (λ (r : ℕ). ones r ≡ r) refl refl r h
 
-ones-digit : (q d : ℕ) → d < 2 → ones (q * 2 + d) ≡ ones q + d
-ones-digit q d h = ones-cat 1 q d h ∙ ap (λ (x : ℕ). ones q + x) (ones-bit d h)
-
 differ-min : (x y : ℕ) → x < 2 → y < 2 → differ x y + 2 * min x y ≡ x + y
 differ-min x y hx hy =
     cases2 (λ (x : ℕ). differ x y + 2 * min x y ≡ x + y)
     (cases2 (λ (y : ℕ). differ 0 y + 2 * min 0 y ≡ 0 + y) refl refl y hy)
     (cases2 (λ (y : ℕ). differ 1 y + 2 * min 1 y ≡ 1 + y) refl refl y hy) x hx
-
--- the members of both are counted twice
-pub ones-xor : (a b : ℕ) → ones (bitXor a b) + 2 * ones (bitAnd a b) ≡ ones a + ones b
-ones-xor a =
-    bin-ind (λ (n : ℕ). (b : ℕ) → ones (bitXor n b) + 2 * ones (bitAnd n b) ≡ ones n + ones b)
-    (λ b. omega (arith, ap (λ (x : ℕ). 2 * x) (ones-bit 0 two-pos), ones-bit 0 two-pos))
-    (λ n ih b.
-    let hx = mod-lt n two-pos in let hy = mod-lt b two-pos in
-    let e1 = ap ones (xor-step n b) ∙ ones-digit (bitXor (n / 2) (b / 2)) (differ (n % 2) (b % 2)) (differ-lt _ _ hx hy) in
-    let e2 = ap ones (and-step n b) ∙ ones-digit (bitAnd (n / 2) (b / 2)) (min (n % 2) (b % 2)) (min-lt _ _ hx) in
-    omega (arith, e1, e2, ones-step n, ones-step b, ih (b / 2), differ-min (n % 2) (b % 2) hx hy)) a
-
-pub ones-xor-le : (a b : ℕ) → ones (bitXor a b) ≤ ones a + ones b
-ones-xor-le a b = omega (arith, ones-xor a b)
 
 -- the same, of the members below n
 pub length-sum : (n a b : ℕ) → lengthTo n (bitXor a b) + 2 * lengthTo n (bitAnd a b) ≡ lengthTo n a + lengthTo n b
@@ -139,15 +135,28 @@ length-sum zero a b = refl
 length-sum (suc n) a b =
     omega (arith, length-sum n a b, bit-xor a b n, bit-and a b n, differ-min (bit a n) (bit b n) (bit-lt a n) (bit-lt b n))
 
+pub length-le : (n s : ℕ) → lengthTo n s ≤ n
+unfolding lengthTo
+length-le zero s = omega arith
+length-le (suc n) s = omega (arith, bit-lt s n, length-le n s)
+
+pub length-none : (n : ℕ) → lengthTo n 0 ≡ 0
+unfolding lengthTo
+length-none zero = refl
+length-none (suc n) = omega (arith, zero-bit n, length-none n)
+
+-- sets that share no member
+pub length-disjoint : (n s t : ℕ) → bitAnd s t ≡ 0 → lengthTo n (bitOr s t) ≡ lengthTo n s + lengthTo n t
+length-disjoint n s t e =
+    let same : bitOr s t ≡ bitXor s t = or-disjoint s t e ∙ sym (xor-disjoint s t e) in
+    omega (arith, ap (lengthTo n) same, length-sum n s t, ap (lengthTo n) e, length-none n)
+
 -- a set of length 0 has no member
 pub bit-of-length-zero : (n s : ℕ) → lengthTo n s ≡ 0 → (k : ℕ) → k < n → bit s k ≡ 0
 unfolding lengthTo
 bit-of-length-zero zero s e k h = absurd (omega arith)
 bit-of-length-zero (suc n) s e k h =
     ⊎-elim (λ (l : k < n). bit-of-length-zero n s (omega arith) k l) (λ (l : n ≤ k). let q : k ≡ n = omega arith in rw q (omega arith)) (lt-or-ge k n)
-
-pub zero-of-length-zero : (n s : ℕ) → lengthTo n s ≡ 0 → s < 2 ^ n → s ≡ 0
-zero-of-length-zero n s e h = ext n s 0 h (pow-pos n) (λ k l. bit-of-length-zero n s e k l ∙ sym (zero-bit k))
 
 -- the language's count of ones counts the members
 pub lengthTo-ones : (n s : ℕ) → lengthTo n s ≡ ones (s % 2 ^ n)

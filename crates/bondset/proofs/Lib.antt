@@ -4,6 +4,7 @@ pub mod Words
 pub mod Members
 pub mod Bytes
 pub mod Group
+pub mod Rows
 pub mod ReductionTags
 pub mod ReductionModel
 pub mod ReductionTheorems

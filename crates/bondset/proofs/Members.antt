@@ -1,6 +1,6 @@
 -- The members of a bond set as a list: which they are, how many, and a loop that takes the lowest away until none is left.
 use mathlib.Core.Path.{_≡_, refl, sym, ap, ap₂, _∙_}
-use mathlib.Core.Logic.{_⊎_, inl, inr, ⊎-elim, _↔_}
+use mathlib.Core.Logic.{⊎-elim, _↔_}
 use mathlib.Core.List.{List, [], _∷_, _++_, append-nil}
 use Prim.Native.Nat.{ℕ, zero, suc, _+_, _-_, _*_, _/_, _%_, _^_, _≤_, _<_, min}
 use native.Mathlib.Nat.{add-comm, pow-suc, mul-div-cancel, mul-mod-left, zero-min, mod-lt, zero-lt-suc}
@@ -11,8 +11,9 @@ use lib.Count.{trailingZeros, under}
 use lib.ListN.{length, length-append}
 use lib.Pow.{shr-lt}
 use Rattle.spans.specs.Elements.{_∈_, first, later}
+use Rattle.spans.proofs.Lists.{in-left, in-right, in-append}
 use Rattle.bondset.specs.Sets.{bit, lengthTo, ifSet, members, Climbs, none, next, Lowest}
-use Rattle.bondset.proofs.Laws.{cases2, lt-or-ge, bit-lt, bit-xor, bit-pow-same, bit-pow-other, zero-bit, trailing, lowest}
+use Rattle.bondset.proofs.Laws.{cases2, differ-zero, lt-or-ge, bit-lt, bit-xor, bit-pow-same, bit-pow-other, zero-bit, trailing, lowest}
 
 -- ---- how many there are
 
@@ -28,25 +29,12 @@ lengthTo-members (suc n) s =
 
 -- ---- which they are
 
-∈-left : {x : ℕ} {xs : List ℕ} (ys : List ℕ) → x ∈ xs → x ∈ (xs ++ ys)
-∈-left ys first = first
-∈-left ys (later m) = later (∈-left ys m)
-
-∈-right : {x : ℕ} (xs : List ℕ) {ys : List ℕ} → x ∈ ys → x ∈ (xs ++ ys)
-∈-right [] m = m
-∈-right (x ∷ xs) m = later (∈-right xs m)
-
-∈-cases : {x : ℕ} (xs ys : List ℕ) → x ∈ (xs ++ ys) → (x ∈ xs) ⊎ (x ∈ ys)
-∈-cases [] ys m = inr m
-∈-cases (x ∷ xs) ys first = inl first
-∈-cases (x ∷ xs) ys (later m) = ⊎-elim (λ l. inl (later l)) (λ r. inr r) (∈-cases xs ys m)
-
 pub mem-of-bit : (n s k : ℕ) → k < n → bit s k ≡ 1 → k ∈ members n s
 unfolding members
 mem-of-bit zero s k h e = absurd (omega arith)
 mem-of-bit (suc n) s k h e =
-    ⊎-elim (λ (l : k < n). ∈-left (ifSet (bit s n) n) (mem-of-bit n s k l e))
-    (λ (l : n ≤ k). let q : k ≡ n = omega arith in ∈-right (members n s) (last (bit s n) q (rw q at e))) (lt-or-ge k n)
+    ⊎-elim (λ (l : k < n). in-left (ifSet (bit s n) n) (mem-of-bit n s k l e))
+    (λ (l : n ≤ k). let q : k ≡ n = omega arith in in-right (members n s) (last (bit s n) q (rw q at e))) (lt-or-ge k n)
   where
     last : (b : ℕ) → k ≡ n → b ≡ 1 → k ∈ ifSet b n
     last b q e = rw (e, q) first
@@ -61,14 +49,14 @@ pub lt-of-mem : (n s k : ℕ) → k ∈ members n s → k < n
 unfolding members
 lt-of-mem (suc n) s k m =
     ⊎-elim (λ (l : k ∈ members n s). omega (arith, lt-of-mem n s k l)) (λ (l : k ∈ ifSet (bit s n) n). omega (arith, ∈-ifSet-eq (bit s n) l))
-    (∈-cases (members n s) (ifSet (bit s n) n) m)
+    (in-append (members n s) (ifSet (bit s n) n) m)
 
 pub bit-of-mem : (n s k : ℕ) → k ∈ members n s → bit s k ≡ 1
 unfolding members
 bit-of-mem (suc n) s k m =
     ⊎-elim (λ (l : k ∈ members n s). bit-of-mem n s k l)
     (λ (l : k ∈ ifSet (bit s n) n). rw (∈-ifSet-eq (bit s n) l) (omega (arith, ∈-ifSet-pos (bit s n) n l, bit-lt s n)))
-    (∈-cases (members n s) (ifSet (bit s n) n) m)
+    (in-append (members n s) (ifSet (bit s n) n) m)
 
 -- the members are those below n whose bit is 1
 pub mem-members : (n s k : ℕ) → (k ∈ members n s) ↔ ((k < n) × (bit s k ≡ 1))
@@ -77,7 +65,7 @@ mem-members n s k = (λ m. (lt-of-mem n s k m, bit-of-mem n s k m), λ p. mem-of
 ascending-append : {xs : List ℕ} (k : ℕ) → Climbs xs → ((x : ℕ) → x ∈ xs → x < k) → Climbs (xs ++ (k ∷ []))
 ascending-append k none h = next {x = k} {xs = []} (λ y. elim [ ]) none
 ascending-append k (next {x} {xs} lt a) h =
-    next (λ y m. ⊎-elim (λ (l : y ∈ xs). lt y l) (λ (l : y ∈ ifSet 1 k). omega (arith, ∈-ifSet-eq 1 l, h x first)) (∈-cases xs (k ∷ []) m))
+    next (λ y m. ⊎-elim (λ (l : y ∈ xs). lt y l) (λ (l : y ∈ ifSet 1 k). omega (arith, ∈-ifSet-eq 1 l, h x first)) (in-append xs (k ∷ []) m))
     (ascending-append k a (λ y m. h y (later m)))
 
 pub members-climb : (n s : ℕ) → Climbs (members n s)
@@ -135,10 +123,6 @@ clear-lowest (suc n) s p h =
         let z : (s - 1) % 2 ≡ 0 = omega arith in
         let o : d ≡ 0 = omega (arith, mod-lt s (zero-lt-suc 1)) in
         rw (q, z, o, and-self, xor-zero-r)
-
-differ-zero : (x : ℕ) → differ x 0 ≡ x
-differ-zero zero = refl
-differ-zero (suc x) = refl
 
 -- one turn of a loop over the members, which goes on with s & (s - 1)
 pub members-step : (n s : ℕ) → 0 < s → s < 2 ^ n → members n s ≡ trailingZeros n s ∷ members n (bitAnd s (s - 1))

@@ -7,25 +7,16 @@ use native.Mathlib.Numerals.{add-one}
 use native.Mathlib.Omega.{arith}
 use lib.Arith.{lt-one}
 use lib.ListN.{length, getD, take, drop}
-use lib.Bits.{bitXor, differ, xor-comm, xor-self, xor-zero-r, xor-shr, xor-lt, xor-shifted, shifted-half, shifted-even}
+use lib.Bits.{bitXor, differ, xor-self, xor-zero-r, xor-shr, xor-lt, xor-shifted, shifted-half, shifted-even}
 use lib.Pow.{shr-lt, pow-pos, split}
-use Rattle.spans.specs.Basis.{Part, All, Sum}
+use Rattle.spans.specs.Basis.{Part, Sum}
 use Rattle.spans.proofs.Span.{Span, at, from-part}
 use Rattle.bondset.specs.Sets.{bit}
 use Rattle.bondset.specs.Reduction.{combine, keepIf, namedBy}
-use Rattle.bondset.proofs.Laws.{cases2, bit-xor, bit-zero, bit-suc, xor-assoc}
+use Rattle.bondset.proofs.Laws.{cases2, bit-xor, bit-zero, xor-swap}
 use Rattle.bondset.proofs.Group.{bondSets}
 
 -- ---- sums
-
-pub xor-swap : (a b c d : ℕ) → bitXor (bitXor a b) (bitXor c d) ≡ bitXor (bitXor a c) (bitXor b d)
-xor-swap a b c d =
-    xor-assoc a b (bitXor c d)
-    ∙ ap (bitXor a) (sym (xor-assoc b c d) ∙ ap (λ (x : ℕ). bitXor x d) (xor-comm b c) ∙ xor-assoc c b d)
-    ∙ sym (xor-assoc a c (bitXor b d))
-
-pub xor-cancel : (a b : ℕ) → bitXor (bitXor a b) b ≡ a
-xor-cancel a b = xor-assoc a b b ∙ ap (bitXor a) (xor-self b) ∙ xor-zero-r a
 
 -- a digit times a set: the set or nothing
 pub scale-xor : (w x y : ℕ) → x < 2 → y < 2 → differ x y * w ≡ bitXor (x * w) (y * w)
@@ -129,26 +120,6 @@ namedBy-sum (x ∷ xs) t = kept x (namedBy xs (t / 2)) (t % 2) (odd-lt t) ∙ ap
         cases2 (λ (d : ℕ). Sum bondSets (keepIf d x ys) ≡ bitXor (d * x) (Sum bondSets ys))
         (ap (λ (y : ℕ). bitXor y (Sum bondSets ys)) (sym (zero-mul x)))
         (ap (λ (y : ℕ). bitXor y (Sum bondSets ys)) (sym (one-mul x))) d h
-
--- what holds of each set that is named holds of the list
-pub namedBy-all : {P : ℕ → Type 0} (xs : List ℕ) (t : ℕ) → ((i : ℕ) → i < length xs → bit t i ≡ 1 → P (getD xs i 0)) → All P (namedBy xs t)
-unfolding namedBy
-namedBy-all [] t h = All.nil
-namedBy-all {P} (x ∷ xs) t h =
-    kept (t % 2) refl (odd-lt t) (namedBy-all xs (t / 2) (λ i l b. h (suc i) (omega arith) (bit-suc t i ∙ b)))
-  where
-    kept : (d : ℕ) → t % 2 ≡ d → d < 2 → {ys : List ℕ} → All P ys → All P (keepIf d x ys)
-    kept zero e l r = r
-    kept (suc zero) e l r = All.cons (h 0 (omega arith) (bit-zero t ∙ e)) r
-    kept (suc (suc d)) e l r = absurd (omega arith)
-
--- a tag whose first k digits are 0
-pub namedBy-shifted : (k a : ℕ) (xs : List ℕ) → namedBy xs (a * 2 ^ k) ≡ namedBy (drop k xs) a
-unfolding namedBy
-namedBy-shifted zero a xs = ap (namedBy xs) (omega arith)
-namedBy-shifted (suc k) a [] = refl
-namedBy-shifted (suc k) a (x ∷ xs) =
-    ap₂ (λ (d t : ℕ). keepIf d x (namedBy xs t)) (shifted-even a k) (shifted-half a k) ∙ namedBy-shifted k a xs
 
 -- what a tag names lies in the span of the chosen sets
 pub combine-span : (xs : List ℕ) (t : ℕ) → Span bondSets xs (combine xs t)

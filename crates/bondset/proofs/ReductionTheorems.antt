@@ -6,23 +6,25 @@ use Prim.Native.Nat.{ℕ, zero, suc, _+_, _-_, _*_, _/_, _%_, _^_, _≤_, _<_, z
 use native.Mathlib.Nat.{add-zero, add-suc, zero-mul, mul-zero, one-mul, mul-one, mod-lt, le-add-right, le-refl, le-of-lt, lt-trans, lt-of-lt-of-le}
 use native.Mathlib.Numerals.{add-one}
 use native.Mathlib.Omega.{arith}
-use lib.ListN.{length, getD, set, take, drop, length-append, length-drop, length-set, List·getD-append}
-use lib.Seq.{take-suc, take-length, take-append-seam, getD-append-seam, getD-drop, getD-set-same, getD-set-other}
+use lib.ListN.{length, getD, set, take, drop, length-append, length-set, List·getD-append}
+use lib.Seq.{take-suc, take-length, take-append-seam, getD-append-seam, getD-set-same, getD-set-other}
 use lib.Bits.{bitXor, differ, xor-comm, xor-self, xor-zero-l, xor-zero-r, xor-lt}
 use lib.Count.{trailingZeros}
-use lib.Pow.{pow-pos, pow-mono, pow-lt, shr-shr}
+use lib.Pow.{pow-pos, pow-mono, pow-lt}
 use Rattle.spans.specs.Basis.{All, Sum, Subgroup}
 use Rattle.spans.proofs.Indep.{Indep, indep-perm}
 use Rattle.spans.proofs.Lists.{all-append, perm-comm}
 use Rattle.spans.proofs.Span.{Span, at}
 use Rattle.spans.proofs.Steinitz.{span-inside}
 use Rattle.bondset.specs.Sets.{bit}
-use Rattle.bondset.specs.Reduction.{rowAt, putRow, reduced, used, pushedTag, pivotOf, Room, combine, namedBy, Reduction}
-use Rattle.bondset.proofs.Laws.{cases2, bit-lt, bit-xor, bit-pow-same, bit-beyond, single-below, zero-bit, lt-or-ge, pos-of-ne, trailing}
+use Rattle.bondset.specs.Rows.{rowAt, putRow}
+use Rattle.bondset.specs.Reduction.{reduced, used, pushedTag, pivotOf, Room, combine, namedBy, Reduction}
+use Rattle.bondset.proofs.Laws.{cases2, bit-lt, bit-xor, bit-pow-same, bit-beyond, single-below, zero-bit, lt-or-ge, pos-of-ne, trailing, xor-swap, xor-cancel}
 use Rattle.bondset.proofs.Group.{bondSets}
-use Rattle.bondset.proofs.ReductionTags.{xor-swap, xor-cancel, scale-xor, combine-zero, combine-xor, combine-scale, combine-single, combine-take, combine-lt}
-use Rattle.bondset.proofs.ReductionTags.{combine-last, combine-split, combine-shifted, combine-span-take, digit-lt, namedBy-all, namedBy-sum}
-use Rattle.bondset.proofs.ReductionModel.{reduced-none, reduced-more, used-none, used-more, length-putRow, row-same, row-other}
+use Rattle.bondset.proofs.ReductionTags.{scale-xor, combine-zero, combine-xor, combine-scale, combine-single, combine-take, combine-lt}
+use Rattle.bondset.proofs.ReductionTags.{combine-last, combine-split, combine-shifted, combine-span-take, digit-lt, namedBy-sum}
+use Rattle.bondset.proofs.Rows.{length-putRow, row-same, row-other}
+use Rattle.bondset.proofs.ReductionModel.{reduced-none, reduced-more, used-none, used-more}
 
 -- ---- one row
 
@@ -449,15 +451,3 @@ sum-short short chosen t = namedBy-sum (drop short chosen) (t / 2 ^ short) ∙ s
 pub remains-short : (short : ℕ) (chosen : List ℕ) (t v : ℕ) → v ≡ combine chosen t
     → Span bondSets (take short chosen) (bitXor v (Sum bondSets (namedBy (drop short chosen) (t / 2 ^ short))))
 remains-short short chosen t v e = at bondSets (ap (bitXor v) (sym (sum-short short chosen t))) (span-short short chosen t v e)
-
--- what holds of the chosen sets from the short-th on that a tag names holds of the list that it names
-pub named-short-all : {P : ℕ → Type 0} (short : ℕ) (chosen : List ℕ) (t : ℕ)
-    → ((i : ℕ) → short ≤ i → i < length chosen → bit t i ≡ 1 → P (getD chosen i 0)) → All P (namedBy (drop short chosen) (t / 2 ^ short))
-named-short-all {P} short chosen t h =
-    namedBy-all (drop short chosen) (t / 2 ^ short)
-    (λ i l b. subst P (sym (getD-drop short chosen i 0))
-    (h (short + i) (le-add-right short i) (in-range i (subst (λ (n : ℕ). i < n) (length-drop short chosen) l))
-    (sym (ap (λ (x : ℕ). x % 2) (shr-shr t short i)) ∙ b)))
-  where
-    in-range : (i : ℕ) → i < length chosen - short → short + i < length chosen
-    in-range i l = omega arith

@@ -6,14 +6,7 @@ use lib.ListN.{length, getD, set}
 use lib.Bits.{bitXor}
 use lib.Count.{trailingZeros}
 use Rattle.bondset.specs.Sets.{bit, single}
-
--- row i of a flat array of rows of two words
-unfoldable pub rowAt : List ℕ → ℕ → ℕ
-rowAt rows i = getD rows (2 * i + 1) 0 * 2 ^ 64 + getD rows (2 * i) 0
-
--- the array with the set v stored as row i
-unfoldable pub putRow : List ℕ → ℕ → ℕ → List ℕ
-putRow rows i v = set (set rows (2 * i) (v % 2 ^ 64)) (2 * i + 1) (v / 2 ^ 64)
+use Rattle.bondset.specs.Rows.{rowAt, putRow}
 
 -- the set s after n rows in order, beginning at row `from`: each is added where the set then holds its pivot
 unfoldable pub reducedBy : List ℕ → List ℕ → ℕ → ℕ → ℕ → ℕ

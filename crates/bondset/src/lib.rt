@@ -2,6 +2,7 @@
 //!
 //! A set's value is the number in which bond k has weight 2^k, and each function says exactly what becomes of that number:
 //! sums, intersections, single bonds, membership, length, the lowest bond, the bonds from one on, and the set as 12 bytes.
+//! A byte beyond the end of a list counts as 0.
 //! Each of these answers for every input, and nothing is assumed of what the bonds join.
 ghost use mathlib.Core.Path.{_≡_};
 ghost use Prim.Native.Nat.{_+_, _-_, _*_, _/_, _^_, _<_, _≤_, min};
@@ -11,6 +12,7 @@ ghost use lib.Dec.{eqb};
 ghost use lib.ListN.{length, getD, drop};
 ghost use lib.Seq.{paste};
 ghost use Rattle.bondset.specs.Bytes.{byteOf, bytesOf, ofFirst, ofBytes};
+ghost use Rattle.bondset.specs.Rows.{rowAt, putRow};
 ghost use Rattle.bondset.specs.Sets.{has, single, lengthTo, value};
 
 pub mod reduction;
@@ -150,7 +152,7 @@ pub fn to_bytes(a: BondSet, out: &mut [u8])
 }
 
 /// Byte `i`, or 0 if there is none.
-fn byte_at(bytes: &[u8], i: usize) -> u8
+pub fn byte_at(bytes: &[u8], i: usize) -> u8
     ensures { λ r. ⌜ r ≡ getD (now (bytes .entry)) i 0 ⌝ }
 {
     if i < bytes.len() {
@@ -180,4 +182,24 @@ pub fn from_bytes(bytes: &[u8]) -> BondSet
         lo: word(bytes, 0, 8),
         hi: word(bytes, 8, 4),
     }
+}
+
+/// Row `i` of sets that stand in a flat array, row i in words 2i and 2i + 1.
+pub fn row_at(rows: &[u64], i: usize) -> BondSet
+    requires { ⌜ 2 * (i + 1) ≤ length (now rows) ⌝ }
+    ensures { λ r. ⌜ value r ≡ rowAt (now (rows .entry)) i ⌝ }
+{
+    BondSet {
+        lo: rows[2 * i],
+        hi: rows[2 * i + 1],
+    }
+}
+
+/// Stores `v` as row `i` of sets that stand in a flat array.
+pub fn put_row(rows: &mut [u64], i: usize, v: BondSet)
+    requires { ⌜ 2 * (i + 1) ≤ length (now rows) ⌝ }
+    ensures { λ _. ⌜ now (rows .exit) ≡ putRow (now (rows .entry)) i (value v) ⌝ }
+{
+    rows[2 * i] = v.lo;
+    rows[2 * i + 1] = v.hi;
 }

@@ -2,11 +2,9 @@
 //!
 //! Row i is the set in words 2i and 2i + 1 of `rows`, and its tag the set in words 2i and 2i + 1 of `tags`; byte i of `pivots` is its pivot,
 //! a bond that it holds. The tag names chosen sets by their numbers, and the row is their sum.
-ghost use mathlib.Core.Path.{_≡_};
-ghost use Prim.Native.Nat.{_+_, _*_, _≤_};
-ghost use lib.ListN.{length};
+ghost use Prim.Native.Nat.{_+_};
 ghost use Rattle.bondset.specs.Sets.{value};
-ghost use Rattle.bondset.specs.Reduction.{rowAt, putRow, Room, Reduces, Pushes};
+ghost use Rattle.bondset.specs.Reduction.{Room, Reduces, Pushes};
 use crate::BondSet;
 
 /// A set on its way through the rows.
@@ -15,26 +13,6 @@ pub struct Reduced {
     pub rest: BondSet,
     /// The numbers of the chosen sets used on the way.
     pub used: BondSet,
-}
-
-/// Row `i`.
-pub fn row_at(rows: &[u64], i: usize) -> BondSet
-    requires { ⌜ 2 * (i + 1) ≤ length (now rows) ⌝ }
-    ensures { λ r. ⌜ value r ≡ rowAt (now (rows .entry)) i ⌝ }
-{
-    BondSet {
-        lo: rows[2 * i],
-        hi: rows[2 * i + 1],
-    }
-}
-
-/// Stores `v` as row `i`.
-pub fn put_row(rows: &mut [u64], i: usize, v: BondSet)
-    requires { ⌜ 2 * (i + 1) ≤ length (now rows) ⌝ }
-    ensures { λ _. ⌜ now (rows .exit) ≡ putRow (now (rows .entry)) i (value v) ⌝ }
-{
-    rows[2 * i] = v.lo;
-    rows[2 * i + 1] = v.hi;
 }
 
 /// Reduces `v` by the rows from, .., to - 1 in order: where the rest holds the pivot, the row is added to the rest, and its tag to what was used.
@@ -57,10 +35,10 @@ pub fn reduce(
     for i in from..to {
         let k = pivots[i] as usize;
         if (words[k / 64] >> (k % 64)) & 1 == 1 {
-            rest = crate::sum(rest, row_at(rows, i));
+            rest = crate::sum(rest, crate::row_at(rows, i));
             words[0] = rest.lo;
             words[1] = rest.hi;
-            used = crate::sum(used, row_at(tags, i));
+            used = crate::sum(used, crate::row_at(tags, i));
         }
     }
     Reduced { rest, used }
@@ -72,7 +50,7 @@ pub fn push(rows: &mut [u64], tags: &mut [u64], pivots: &mut [u8], count: usize,
     ensures { λ _. ⌜ Pushes (now (rows .entry)) (now (tags .entry)) (now (pivots .entry)) count (value (v .rest)) (value (v .used))
         (now (rows .exit)) (now (tags .exit)) (now (pivots .exit)) ⌝ }
 {
-    put_row(rows, count, v.rest);
-    put_row(tags, count, crate::sum(v.used, crate::single(count)));
+    crate::put_row(rows, count, v.rest);
+    crate::put_row(tags, count, crate::sum(v.used, crate::single(count)));
     pivots[count] = crate::lowest(v.rest) as u8;
 }

@@ -18,7 +18,7 @@ use Rattle.model.specs.Loops.{above, fam}
 use Rattle.model.specs.Net.{Net}
 use Rattle.model.proofs.NetBits.{and-has}
 use Rattle.model.proofs.ItemsSets.{above-has}
-use Rattle.model.proofs.ItemsFound.{pairs, tips, odds, evens, found}
+use Rattle.model.specs.Candidates.{pairs, tips, odds, evens, found}
 use Rattle.candidates.specs.declared.cursor.Cursor.{Cursor}
 use Rattle.candidates.specs.Going.{graph}
 use Rattle.candidates.specs.Cursor.{partnersIn, ahead, Stood, Sticks, Moves, Follows, Starts, Firsts, Passes}

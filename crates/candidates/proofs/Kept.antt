@@ -11,17 +11,19 @@ use lib.ListN.{length, set}
 use Rattle.bondset.specs.Reduction.{reduced, used}
 use Rattle.bondset.proofs.Laws.{lt-or-ge}
 use Rattle.cycles.specs.Family.{Family}
+use Rattle.cycles.specs.Rows.{most}
 use Rattle.model.specs.Layer.{walk, ways}
 use Rattle.model.specs.State.{link}
 use Rattle.paths.specs.Nets.{net}
-use Rattle.paths.specs.Counts.{added}
-use Rattle.paths.specs.declared.counting.Count.{Count}
-use Rattle.paths.proofs.Steps.{link-net, walk-net, ways-net}
+use Rattle.counting.specs.Counts.{added}
+use Rattle.counting.specs.declared.Count.{Count}
+use Rattle.counting.proofs.WaysNet.{ways-net}
+use Rattle.paths.proofs.Steps.{link-net, walk-net}
 use Rattle.ledger.specs.declared.Tally.{Tally}
 use Rattle.ledger.specs.Ledger.{Ledger, entered}
 use Rattle.ledger.specs.Held.{ledgerOf, Sized, Fit}
 use Rattle.candidates.specs.declared.Going.{Going}
-use Rattle.candidates.specs.Engine.{Engine, most, putSize, keptBy, attempted}
+use Rattle.candidates.specs.Engine.{Engine, putSize, keptBy, attempted}
 use Rattle.candidates.specs.Going.{graph, engineOf, Tries}
 
 -- ---- the size

@@ -8,8 +8,10 @@ use Rattle.cycles.specs.Family.{Family}
 use Rattle.model.specs.Fold.{through}
 use Rattle.model.specs.Net.{Net}
 use Rattle.model.specs.Loops.{seek}
-use Rattle.model.proofs.ItemsFound.{depth, found, seek-found}
-use Rattle.ledger.specs.Held.{Small, Sized, Fit}
+use Rattle.model.specs.Candidates.{found}
+use Rattle.model.proofs.ItemsFound.{depth, seek-found}
+use Rattle.rows.specs.Values.{Small}
+use Rattle.ledger.specs.Held.{Sized, Fit}
 use Rattle.candidates.specs.declared.Going.{Going}
 use Rattle.candidates.specs.Engine.{Engine}
 use Rattle.candidates.specs.Going.{engineOf, Place, Tries}

@@ -11,7 +11,7 @@ use Rattle.bondset.specs.Sets.{bit, members}
 use Rattle.cycles.specs.Family.{Family}
 use Rattle.model.specs.Fold.{each}
 use Rattle.model.specs.Loops.{above, fam}
-use Rattle.model.proofs.ItemsFound.{pairs, tips, found}
+use Rattle.model.specs.Candidates.{pairs, tips, found}
 use Rattle.candidates.specs.declared.cursor.Cursor.{Cursor}
 use Rattle.candidates.specs.Going.{graph}
 

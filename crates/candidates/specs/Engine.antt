@@ -6,16 +6,13 @@ use lib.Dec.{eqb, leb, ltb}
 use lib.ListN.{length, set}
 use Rattle.bondset.specs.Reduction.{reduced, used}
 use Rattle.cycles.specs.Family.{Family}
+use Rattle.cycles.specs.Rows.{most}
 use Rattle.model.specs.Net.{Net}
 use Rattle.model.specs.Layer.{walk, ways}
 use Rattle.model.specs.State.{link}
-use Rattle.paths.specs.declared.counting.Count.{Count}
-use Rattle.paths.specs.Counts.{added}
+use Rattle.counting.specs.declared.Count.{Count}
+use Rattle.counting.specs.Counts.{added}
 use Rattle.ledger.specs.Ledger.{Ledger, entered}
-
--- "rings would exceed 18,446,744,073,709,551,615"
-abbrev pub most : ℕ
-most = 18446744073709551615
 
 -- The ledger, the number of rings so far, and the sizes of the families whose rows were asked for: those from a row on, as
 -- many as there is room for.

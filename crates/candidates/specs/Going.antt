@@ -4,7 +4,7 @@ use mathlib.Core.List.{List}
 use Prim.Native.Nat.{ℕ, _<_, _≤_}
 use lib.ListN.{length}
 use Rattle.model.specs.Net.{Net}
-use Rattle.paths.specs.Counts.{Disjoint}
+use Rattle.counting.specs.Counts.{Disjoint}
 use Rattle.ledger.specs.Held.{ledgerOf, Sized, Fit}
 use Rattle.candidates.specs.declared.Going.{Going}
 use Rattle.candidates.specs.Engine.{Engine}

@@ -27,7 +27,7 @@ fn partners(adj: &[u64], all: u64, x: usize, p: usize) -> u64
     requires { ⌜ 64 ≤ length (now adj) ⌝ }
     ensures { λ r. ⌜ r ≡ partnersIn (now (adj .entry)) all x p ⌝ }
 {
-    let rest = compound::above(all, p);
+    let rest = atoms::above(all, p);
     if x == 255 {
         return rest & adj[p];
     }
@@ -56,21 +56,21 @@ fn step(adj: &[u64], below: u64, c: Cursor) -> Cursor
     ensures { λ r. ⌜ Moves (now (adj .entry)) below c r ⌝ }
 {
     if c.ps != 0 {
-        let p = compound::lowest(c.ps);
+        let p = atoms::lowest(c.ps);
         let qs = partners(adj, c.all, c.x, p);
         return Cursor {
             xs: c.xs,
             all: c.all,
-            ps: compound::others(c.ps),
+            ps: atoms::others(c.ps),
             qs,
             x: c.x,
             p,
         };
     }
-    let x = compound::lowest(c.xs);
+    let x = atoms::lowest(c.xs);
     let all = adj[x] & below;
     Cursor {
-        xs: compound::others(c.xs),
+        xs: atoms::others(c.xs),
         all,
         ps: all,
         qs: 0,
@@ -141,7 +141,7 @@ pub fn next(adj: &[u64], below: u64, c: Cursor) -> Cursor
         xs: c.xs,
         all: c.all,
         ps: c.ps,
-        qs: compound::others(c.qs),
+        qs: atoms::others(c.qs),
         x: c.x,
         p: c.p,
     };

@@ -1,7 +1,7 @@
 //! The candidates of one length and one top atom, in the order of the rows: each is tried, and entered in the ledger if it is kept.
 //!
 //! A cursor passes the candidates, and what one of them does to the lent arrays is exactly what the definitions of `specs/Engine.antt` say,
-//! which are those of the plan in `model` over rows of bytes.
+//! which are those of the plan in `model` over rows of bytes. The number of atoms, `n`, goes along for the contracts alone.
 ghost use mathlib.Core.Path.{_≡_};
 ghost use mathlib.Core.Bool.{cond};
 ghost use Prim.Native.Nat.{_*_, _/_, _<_, _≤_};
@@ -9,14 +9,16 @@ ghost use lib.Dec.{ltb};
 ghost use lib.ListN.{getD};
 ghost use Rattle.bondset.specs.Sets.{bit};
 ghost use Rattle.model.specs.Loops.{seek as seekOf};
-ghost use Rattle.ledger.specs.Held.{familyOf, Small, Sized, Fit};
+ghost use Rattle.rows.specs.Values.{familyOf, Small};
+ghost use Rattle.ledger.specs.Held.{Sized, Fit};
 ghost use Rattle.candidates.specs.Engine.{putSize, attempted};
 ghost use Rattle.candidates.specs.Going.{graph, Place, Tries};
 use bondset::reduction::Reduced;
-use ledger::Spot;
+use counting::Count;
 use ledger::Tally;
-use paths::counting::Count;
+use rows::Spot;
 
+/// The cursor that passes the candidates.
 pub mod cursor;
 
 /// What has been counted so far, and the number of rings.
@@ -89,9 +91,9 @@ fn attempt(
     if bondset::is_empty(v.rest) {
         return s;
     }
-    let w = paths::counting::ways(adj, layers, counts, d, f.p, f.q);
+    let w = counting::ways(adj, layers, counts, d, f.p, f.q);
     let before = s.rings;
-    let rings = paths::counting::add(before, w.from_p, w.from_q);
+    let rings = counting::add(before, w.from_p, w.from_q);
     put_size(sizes, from, tally.families, rings.over, w.from_p, w.from_q);
     let tally = ledger::enter(rows, tags, pivots, labels, holds, out, f, v, tally);
     Going { tally, rings }
@@ -132,7 +134,7 @@ pub fn seek(
     let mut at = cursor::first(adj, layers, k, below);
     let mut going = s;
     while at.qs != 0 {
-        let q = compound::lowest(at.qs);
+        let q = atoms::lowest(at.qs);
         let f = Spot {
             k,
             r,

@@ -2,7 +2,7 @@
 use mathlib.Core.Path.{_≡_, refl, sym, _∙_, subst}
 use mathlib.Core.List.{List, [], _∷_, map}
 use mathlib.Core.Logic.{_⊎_, inl, inr}
-use Prim.Native.Nat.{ℕ, _<_, _≤_}
+use Prim.Native.Nat.{ℕ, _+_, _<_, _≤_}
 use native.Mathlib.Omega.{arith}
 use lib.Bits.{bitXor}
 use lib.ListN.{length}
@@ -12,21 +12,21 @@ use Rattle.spans.specs.Graded.{total, below}
 use Rattle.spans.proofs.Lists.{all-map}
 use Rattle.spans.proofs.Span.{Span, at, span-dec, to-part, from-part}
 use Rattle.spans.proofs.Indep.{Indep}
+use Rattle.spans.proofs.Graded.{below-indep}
 use Rattle.spans.proofs.Short as Short
 use Rattle.spans.proofs.Short.{Short, SpansShort, relevant-not-span, not-span-relevant, minimum-spans-short}
 use Rattle.spans.proofs.Short.{relevant-in-minimum, in-minimum-relevant, minimum-relevant}
 use Rattle.spans.proofs.Marking.{Marking, Rising, Complete, marking-minimum, full-stops}
 use Rattle.bondset.proofs.Group.{bondSets}
-use Rattle.cycles.specs.Compound.{Compound, Sound, OnePiece, cyclomatic}
+use Rattle.cycles.specs.Compound.{Compound, m, Sound, OnePiece, cyclomatic}
 use Rattle.cycles.specs.Ring.{len, Closed, Ring, Relevant}
 use Rattle.cycles.specs.Basis.{Basis, Minimum}
 use Rattle.cycles.specs.Family.{Family, Prototype, Member, Kept}
 use Rattle.cycles.specs.Rows.{Row, Report, Right, Ascending, Less, Marks, SumOf}
-use Rattle.cycles.proofs.Shorter.{Shorter, shorter-zero, shorter-add, closed-shorter, ring-or-shorter}
-use Rattle.cycles.proofs.Shorter.{relevant-not-shorter, not-shorter-relevant}
+use Rattle.cycles.proofs.Shorter.{Shorter, shorter-zero, shorter-add, closed-shorter, ring-or-shorter, relevant-not-shorter, not-shorter-relevant}
 use Rattle.cycles.proofs.Families.{prototype-member, prototype-unique, member-differ-shorter}
 use Rattle.cycles.proofs.Members.{relevant-in-family}
-use Rattle.cycles.proofs.Dimension.{closed-basis, dimension-one-piece}
+use Rattle.cycles.proofs.Dimension.{Rooted, pieces, closed-basis, dimension, dimension-one-piece}
 use Rattle.cycles.proofs.Exists.{closed-dec, minimum-exists}
 
 module _ (c : Compound) where
@@ -218,9 +218,21 @@ module _ (c : Compound) (sound : Sound c) (rank : ℕ → ℕ) where
       pub marked-relevant : All (Relevant c) (right .basis)
       marked-relevant = minimum-members-relevant c sound marked-minimum
 
-      -- There are as many marked prototypes as the cyclomatic number says.
+      -- There are m - n and the number of pieces marked prototypes.
+      pub marked-count-pieces : (root : ℕ → ℕ) → Rooted c root → length (right .basis) + c .n ≡ m c + pieces c root
+      marked-count-pieces root rooted = dimension c sound root rooted (right .basis) (marked-minimum .basis)
+
+      -- In one piece, as many as the cyclomatic number says.
       pub marked-count : OnePiece c → 0 < c .n → length (right .basis) ≡ cyclomatic c
       marked-count piece some = dimension-one-piece c sound piece some (right .basis) (marked-minimum .basis)
+
+      -- Once so many prototypes shorter than k are marked, no relevant ring has length k or more.
+      pub marked-full-no-longer : (root : ℕ → ℕ) → Rooted c root → {k C : ℕ} → length (below (len c) k (right .basis)) + c .n ≡ m c + pieces c root
+          → Relevant c C → len c C < k
+      marked-full-no-longer root rooted {k} e r =
+          let b = marked-minimum .basis in
+          full-stops bondSets (len c) (Closed c) (below-indep bondSets (len c) (Closed c) b k) (minimum-spans-short bondSets (len c) (Closed c) marked-minimum k)
+          b (omega (arith, e, marked-count-pieces root rooted)) (relevant-no-sum c sound r)
 
       -- The total length answered is that of every minimum basis.
       pub marked-total : {B : List ℕ} → Minimum c B → R .total ≡ total (len c) B

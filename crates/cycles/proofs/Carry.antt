@@ -7,17 +7,16 @@ use native.Mathlib.Omega.{arith}
 use lib.Pow.{pow-pos}
 use lib.Bits.{bitXor}
 use Rattle.bondset.specs.Sets.{bit, lengthTo}
-use Rattle.bondset.proofs.Laws.{cases2, bit-lt}
+use Rattle.bondset.proofs.Laws.{cases2, bit-lt, lt-or-ge}
 use Rattle.graphs.specs.Count.{xor, same, val, cnt, flip}
 use Rattle.graphs.specs.Graph.{Graph, Simple, deg, Joins as JoinsIn, Closed as ClosedIn}
-use Rattle.graphs.specs.Number.{holds}
 use Rattle.graphs.specs.Ring.{Joined, Ring as RingIn}
 use Rattle.graphs.specs.Walk.{Steps, end, go, last, IsWalk, Within}
-use Rattle.graphs.proofs.Basics.{not-true, same-is, same-ne, same-eq, lt-or-le}
+use Rattle.graphs.proofs.Basics.{not-true, same-is, same-ne, same-eq}
 use Rattle.graphs.proofs.Count.{cnt-pos, cnt-none}
 use Rattle.graphs.proofs.Cycle.{joined-refl, joined-step}
 use Rattle.graphs.proofs.Graph.{degree-is, closed-even, even-closed}
-use Rattle.graphs.proofs.Number.{holds-is, holds-xor, holds-zero, holds-pow, holds-ext}
+use Rattle.cycles.proofs.Number.{holds, holds-is, holds-xor, holds-zero, holds-pow, holds-ext}
 use Rattle.cycles.specs.Compound.{Compound, m, one, other, Joins, given, turned, Sound}
 use Rattle.cycles.specs.Ring.{len, degreeTo, degree, Closed, Along, here, step, Ring}
 
@@ -123,7 +122,7 @@ module _ (c : Compound) (sound : Sound c) where
   pub ring-graph : {S : ℕ} → Ring c S → RingIn (graphOf c) (holds S)
   ring-graph {S} r =
       record {
-        some = ⊎-elim (λ p. p) (λ e. absurd (omega (arith, r .some, empty-zero c (r .closed .bonds) (omega arith)))) (lt-or-le 0 (cnt (holds S) (m c)));
+        some = ⊎-elim (λ p. p) (λ e. absurd (omega (arith, r .some, empty-zero c (r .closed .bonds) (omega arith)))) (lt-or-ge 0 (cnt (holds S) (m c)));
         closed = closed-graph (r .closed);
         two = λ a. rw (← degree-deg S a) (r .twice a);
         joined = λ a b p q. along-joined (r .connected a b (omega (arith, degree-deg S a)) (omega (arith, degree-deg S b)));
@@ -133,7 +132,7 @@ module _ (c : Compound) (sound : Sound c) where
   pub graph-ring : {S : ℕ} → S < 2 ^ m c → RingIn (graphOf c) (holds S) → Ring c S
   graph-ring {S} l r =
       record {
-        some = ⊎-elim (λ p. p) (λ e. absurd (omega (arith, r .some, none (omega arith)))) (lt-or-le 0 S);
+        some = ⊎-elim (λ p. p) (λ e. absurd (omega (arith, r .some, none (omega arith)))) (lt-or-ge 0 S);
         closed = graph-closed l (r .closed);
         connected = λ a b p q. joined-along (r .joined a b (omega (arith, degree-deg S a)) (omega (arith, degree-deg S b)));
         twice = λ a. rw (degree-deg S a) (r .two a);

@@ -1,18 +1,18 @@
 -- How many sets a basis of the closed sets has: as many as there are bonds and pieces, less the atoms.
 use mathlib.Core.Path.{_≡_, refl, sym, ap, ap₂, _∙_}
-use mathlib.Core.Bool.{Bool, true, false, cond, _||_}
+use mathlib.Core.Bool.{Bool, cond, _||_}
 use mathlib.Core.List.{List, [], _∷_, map}
 use mathlib.Core.Logic.{⊎-elim, _≢_}
-use Prim.Native.Nat.{ℕ, zero, suc, _+_, _-_, _*_, _/_, _%_, _^_, _<_, _≤_}
+use Prim.Native.Nat.{ℕ, zero, suc, _+_, _-_, _*_, _%_, _^_, _<_, _≤_}
 use native.Mathlib.Omega.{arith}
 use native.Mathlib.Decide.{ℕ-discrete}
-use native.Mathlib.Nat.{one-mul, div-eq-of-lt, mod-eq-of-lt}
+use native.Mathlib.Nat.{one-mul, mod-eq-of-lt}
 use borrow.Author.Tests.{eq-eqb, ne-eqb}
 use lib.Arith.{digits-lt, lt-one}
 use lib.Bits.{bitXor, differ, xor-lt, xor-shifted, xor-comm, xor-self, xor-zero-l}
 use lib.Dec.{eqb, eqb·zero-suc}
 use lib.ListN.{length, length-map}
-use lib.Pow.{pow-pos, pow-lt, shl-shr, high}
+use lib.Pow.{pow-pos, pow-lt, high}
 use Rattle.spans.specs.Basis.{All, Subgroup}
 use Rattle.spans.proofs.Lists.{all-map, part-all}
 use Rattle.spans.proofs.Span.{Span, at, pick, zero as span-zero, head, add, null}
@@ -20,14 +20,15 @@ use Rattle.spans.proofs.Indep.{Indep, independent}
 use Rattle.spans.proofs.Steinitz.{steinitz, same-length, span-inside, spans}
 use Rattle.spans.proofs.Kernel.{RankNullity, rank-nullity}
 use Rattle.bondset.specs.Sets.{bit}
-use Rattle.bondset.proofs.Laws.{cases2, bit-xor, ext, lt-or-ge, bit-word-lo, zero-bit, xor-assoc}
-use Rattle.bondset.proofs.ReductionTags.{xor-swap, xor-cancel}
+use Rattle.bondset.proofs.Laws.{cases2, bit-xor, bit-pow-same, bit-pow-other, ext, lt-or-ge, bit-word-lo, zero-bit, xor-assoc, xor-swap, xor-cancel}
 use Rattle.bondset.proofs.Group.{bondSets}
+use Rattle.graphs.proofs.Basics.{or-r}
 use Rattle.cycles.specs.Compound.{Compound, m, one, other, Joins, Bonded, Walk, Sound, OnePiece, cyclomatic}
 use Rattle.cycles.specs.Ring.{meets, degreeTo, degree, Closed}
 use Rattle.cycles.specs.Basis.{Basis}
 use Rattle.cycles.proofs.Shorter.{degree-sum-parity}
 use Rattle.cycles.proofs.Edges.{is}
+use Rattle.cycles.proofs.PathsDecide.{joins-below}
 
 -- ---- digits
 parity-differ : (x y : ℕ) → (x + y) % 2 ≡ differ (x % 2) (y % 2)
@@ -43,23 +44,8 @@ parity-differ x y =
 bit-sum : (a b k : ℕ) {x y : ℕ} → bit a k ≡ x → bit b k ≡ y → bit (bitXor a b) k ≡ differ x y
 bit-sum a b k e f = bit-xor a b k ∙ ap₂ (λ (x y : ℕ). differ x y) e f
 
-bit-single : (a : ℕ) → bit (2 ^ a) a ≡ 1
-bit-single a = ap (λ (x : ℕ). x / 2 ^ a % 2) (sym (one-mul (2 ^ a))) ∙ ap (λ (x : ℕ). x % 2) (shl-shr 1 a)
-
-bit-below : (s i : ℕ) → s < 2 ^ i → bit s i ≡ 0
-bit-below s i h = ap (λ (x : ℕ). x % 2) (div-eq-of-lt h)
-
 bit-top : (q r i : ℕ) → q < 2 → r < 2 ^ i → bit (q * 2 ^ i + r) i ≡ q
 bit-top q r i hq hr = ap (λ (x : ℕ). x % 2) (high q i hr) ∙ mod-eq-of-lt hq
-
-bit-single-other : (a i : ℕ) → a ≢ i → bit (2 ^ a) i ≡ 0
-bit-single-other a i n =
-    ⊎-elim
-    (λ (l : a < i). bit-below (2 ^ a) i (pow-lt l))
-    (λ (l : i ≤ a).
-    let e : 2 ^ a ≡ 1 * 2 ^ a + 0 = omega arith in
-    ap (λ (x : ℕ). bit x i) e ∙ bit-word-lo a 1 0 (pow-pos a) i (omega (arith, n)) ∙ zero-bit i)
-    (lt-or-ge a i)
 
 -- The set of the numbers below n at which g is odd.
 unfoldable pub oddTo : (ℕ → ℕ) → ℕ → ℕ
@@ -81,10 +67,6 @@ bit-oddTo g (suc i) a h =
     (lt-or-ge a i)
 
 -- ---- the two ends of a bond
-or-right : (x y : Bool) → y ≡ true → (x || y) ≡ true
-or-right true y e = refl
-or-right false y e = e
-
 -- 1 if i is p or q, else 0.
 abbrev ends : ℕ → ℕ → ℕ → ℕ
 ends p q i = cond (eqb p i || eqb q i) 1 0
@@ -93,7 +75,7 @@ ends-one : (p q i : ℕ) → p ≡ i → ends p q i ≡ 1
 ends-one p q i e = ap (λ (b : Bool). cond (b || eqb q i) 1 0) (eq-eqb p i e)
 
 ends-other : (p q i : ℕ) → q ≡ i → ends p q i ≡ 1
-ends-other p q i e = ap (λ (b : Bool). cond b 1 0) (or-right (eqb p i) (eqb q i) (eq-eqb q i e))
+ends-other p q i e = ap (λ (b : Bool). cond b 1 0) (or-r (eqb p i) (eqb q i) (eq-eqb q i e))
 
 ends-none : (p q i : ℕ) → p ≢ i → q ≢ i → ends p q i ≡ 0
 ends-none p q i e f = ap₂ (λ (b d : Bool). cond (b || d) 1 0) (ne-eqb p i e) (ne-eqb q i f)
@@ -102,7 +84,7 @@ ends-parity : (p q i : ℕ) → p ≢ q → ends p q i % 2 ≡ bit (bitXor (2 ^ 
 ends-parity p q i n = go (ℕ-discrete p i) (ℕ-discrete q i)
   where
     single-at : (a : ℕ) → a ≡ i → bit (2 ^ a) i ≡ 1
-    single-at a e = ap (λ (x : ℕ). bit (2 ^ a) x) (sym e) ∙ bit-single a
+    single-at a e = ap (λ (x : ℕ). bit (2 ^ a) x) (sym e) ∙ bit-pow-same a
 
     parity : {u v w : ℕ} → ends p q i ≡ u → bit (2 ^ p) i ≡ v → bit (2 ^ q) i ≡ w → u % 2 ≡ differ v w
         → ends p q i % 2 ≡ bit (bitXor (2 ^ p) (2 ^ q)) i
@@ -110,9 +92,9 @@ ends-parity p q i n = go (ℕ-discrete p i) (ℕ-discrete q i)
 
     go : Dec (p ≡ i) → Dec (q ≡ i) → ends p q i % 2 ≡ bit (bitXor (2 ^ p) (2 ^ q)) i
     go (yes e) (yes f) = absurd (n (e ∙ sym f))
-    go (yes e) (no f) = parity (ends-one p q i e) (single-at p e) (bit-single-other q i f) refl
-    go (no e) (yes f) = parity (ends-other p q i f) (bit-single-other p i e) (single-at q f) refl
-    go (no e) (no f) = parity (ends-none p q i e f) (bit-single-other p i e) (bit-single-other q i f) refl
+    go (yes e) (no f) = parity (ends-one p q i e) (single-at p e) (bit-pow-other q i f) refl
+    go (no e) (yes f) = parity (ends-other p q i f) (bit-pow-other p i e) (single-at q f) refl
+    go (no e) (no f) = parity (ends-none p q i e f) (bit-pow-other p i e) (bit-pow-other q i f) refl
 
 -- ---- the boundary of a bond set
 module _ (c : Compound) where
@@ -147,7 +129,7 @@ module _ (c : Compound) where
   unfolding degreeTo
   degreeTo-below k i zero h = refl
   degreeTo-below k i (suc j) h =
-      ap₂ (λ (x y : ℕ). x * meets c j i + y) (bit-single-other k j (omega arith)) (degreeTo-below k i j (omega arith)) ∙ omega arith
+      ap₂ (λ (x y : ℕ). x * meets c j i + y) (bit-pow-other k j (omega arith)) (degreeTo-below k i j (omega arith)) ∙ omega arith
 
   degreeTo-single : (k i j : ℕ) → k < j → degreeTo c j (2 ^ k) i ≡ meets c k i
   unfolding degreeTo
@@ -155,10 +137,10 @@ module _ (c : Compound) where
   degreeTo-single k i (suc j) h =
       ⊎-elim
       (λ (l : k < j).
-      ap₂ (λ (x y : ℕ). x * meets c j i + y) (bit-single-other k j (omega arith)) (degreeTo-single k i j l) ∙ omega arith)
+      ap₂ (λ (x y : ℕ). x * meets c j i + y) (bit-pow-other k j (omega arith)) (degreeTo-single k i j l) ∙ omega arith)
       (λ (l : j ≤ k).
       let e : j ≡ k = omega arith in
-      rw e (ap₂ (λ (x y : ℕ). x * meets c k i + y) (bit-single k) (degreeTo-below k i k (omega arith)) ∙ omega arith))
+      rw e (ap₂ (λ (x y : ℕ). x * meets c k i + y) (bit-pow-same k) (degreeTo-below k i k (omega arith)) ∙ omega arith))
       (lt-or-ge k j)
 
 module _ (c : Compound) (sound : Sound c) where
@@ -236,8 +218,8 @@ singlesOf-indep g (suc k) once = Indep.more (new (once k)) (singlesOf-indep g k 
   where
     new : ((j : ℕ) → k < suc k → j < k → g j ≢ g k) → ¬ Span bondSets (singlesOf g k) (2 ^ g k)
     new h s =
-        let others : All (λ v. bit v (g k) ≡ 0) (singlesOf g k) = singlesOf-all g k (λ j l. bit-single-other (g j) (g k) (h j (omega arith) l)) in
-        omega (arith, bit-single (g k), span-inside bondSets (lacks-subgroup (g k)) others s)
+        let others : All (λ v. bit v (g k) ≡ 0) (singlesOf g k) = singlesOf-all g k (λ j l. bit-pow-other (g j) (g k) (h j (omega arith) l)) in
+        omega (arith, bit-pow-same (g k), span-inside bondSets (lacks-subgroup (g k)) others s)
 
 below-subgroup : (k : ℕ) → Subgroup bondSets (λ v. v < 2 ^ k)
 unfolding bondSets
@@ -292,11 +274,11 @@ module _ (root : ℕ → ℕ) where
 
   star-has : (a : ℕ) → root a ≢ a → bit (star a) a ≡ 1
   unfolding star
-  star-has a n = bit-sum (2 ^ root a) (2 ^ a) a (bit-single-other (root a) a n) (bit-single a)
+  star-has a n = bit-sum (2 ^ root a) (2 ^ a) a (bit-pow-other (root a) a n) (bit-pow-same a)
 
   star-lacks : (a i : ℕ) → root a ≢ i → a ≢ i → bit (star a) i ≡ 0
   unfolding star
-  star-lacks a i n l = bit-sum (2 ^ root a) (2 ^ a) i (bit-single-other (root a) i n) (bit-single-other a i l)
+  star-lacks a i n l = bit-sum (2 ^ root a) (2 ^ a) i (bit-pow-other (root a) i n) (bit-pow-other a i l)
 
   star-sum : (a b : ℕ) → root a ≡ root b → bitXor (star a) (star b) ≡ bitXor (2 ^ a) (2 ^ b)
   unfolding star
@@ -384,11 +366,7 @@ module _ (c : Compound) (sound : Sound c) where
   closed-basis = (ranked .kernel, kernel-basis)
 
   image-joins : {k a b : ℕ} → Joins c k a b → Span bondSets (map (boundary c) (ranked .chosen)) (bitXor (2 ^ a) (2 ^ b))
-  image-joins {k} j = at bondSets (boundary-joins c sound j) (ranked .image-spans (2 ^ k) (span-singles (m c) (2 ^ k) (pow-lt (joins-lt j))))
-    where
-      joins-lt : {k a b : ℕ} → Joins c k a b → k < m c
-      joins-lt (Joins.given h e f) = h
-      joins-lt (Joins.turned h e f) = h
+  image-joins {k} j = at bondSets (boundary-joins c sound j) (ranked .image-spans (2 ^ k) (span-singles (m c) (2 ^ k) (pow-lt (joins-below c j))))
 
   -- The two ends of a walk are the boundary of some bond set.
   image-walk : {a b steps : ℕ} → Walk c b a steps → Span bondSets (map (boundary c) (ranked .chosen)) (bitXor (2 ^ a) (2 ^ b))

@@ -1,7 +1,7 @@
 -- The bonds of a path of atoms: parity of degrees, length, and closed paths of different atoms as rings.
 use mathlib.Core.Path.{_≡_, refl, sym, ap, ap₂, _∙_}
 use mathlib.Core.Bool.{Bool, true, false, cond}
-use mathlib.Core.List.{List, [], _∷_}
+use mathlib.Core.List.{List, _∷_}
 use mathlib.Core.Logic.{_↔_, ⊎-elim}
 use Prim.Native.Nat.{ℕ, suc, _+_, _*_, _%_, _^_, _<_, _≤_}
 use native.Mathlib.Omega.{arith}
@@ -12,26 +12,21 @@ use lib.ListN.{length}
 use Rattle.spans.specs.Elements.{_∈_, first, later, Once}
 use Rattle.graphs.specs.Count.{xor, same, val}
 use Rattle.graphs.specs.Graph.{Agree, star}
-use Rattle.graphs.specs.Number.{holds}
 use Rattle.graphs.specs.Ring.{Cycle, cset}
-use Rattle.graphs.specs.Walk.{Steps, end, go, edges, heads, visits, IsWalk, Distinct, last as lastOf, len as steps}
-use Rattle.graphs.proofs.AtomList.{atoms, atoms-len}
+use Rattle.graphs.specs.Walk.{Steps, end, go, edges, heads, visits, IsWalk, Distinct, last, len as steps}
+use Rattle.graphs.specs.AtomList.{lastL}
+use Rattle.graphs.proofs.AtomList.{atoms, atoms-len, lastL-atoms}
 use Rattle.graphs.proofs.Basics.{not-true, or-l, or-r, or-cases, same-is, same-eq, clash}
-use Rattle.graphs.proofs.Count.{cnt-ext, par-cnt, val-some}
+use Rattle.graphs.proofs.Count.{cnt-ext, val-xor-mod, par-cnt, val-some}
 use Rattle.graphs.proofs.Cycle.{cycle-size, cycle-deg, cycle-ring as cycle-ring-graph}
 use Rattle.graphs.proofs.Decompose.{ring-ext}
 use Rattle.graphs.proofs.Graph.{deg-ext, joins-ne}
 use Rattle.graphs.proofs.Lists.{close-fresh}
-use Rattle.graphs.proofs.Number.{holds-zero}
 use Rattle.graphs.proofs.Walk.{boundary, size-le}
+use Rattle.cycles.proofs.Number.{holds, holds-zero}
 use Rattle.cycles.specs.Compound.{Compound, m, Joins, Sound}
 use Rattle.cycles.specs.Ring.{len, degree, Ring, Edges, point, more}
 use Rattle.cycles.proofs.Carry.{holds-flip, graphOf, simple, joins-graph, degree-deg, len-cnt, graph-ring}
-
--- The last atom of the path u ∷ path.
-unfoldable pub last : ℕ → List ℕ → ℕ
-last u [] = u
-last u (v ∷ path) = last v path
 
 -- 1 if a is u, else 0.
 abbrev pub is : ℕ → ℕ → ℕ
@@ -45,19 +40,7 @@ is-val u a = go (eqb u a)
     go true = refl
     go false = refl
 
-val-parity : (a b : Bool) → val (xor a b) ≡ (val a + val b) % 2
-val-parity true true = refl
-val-parity true false = refl
-val-parity false true = refl
-val-parity false false = refl
-
 -- ---- the atoms of a walk
--- The last atom of a walk's path is the walk's last atom.
-pub last-atoms : (u : ℕ) (p : Steps) → last u (atoms p) ≡ lastOf u p
-unfolding last
-last-atoms u end = refl
-last-atoms u (go k w p) = last-atoms w p
-
 -- An atom that a walk visits is on its path.
 pub visits-in : (u : ℕ) (p : Steps) (a : ℕ) → visits u p a ≡ true → a ∈ (u ∷ atoms p)
 visits-in u end a v = ⊎-elim (λ e. rw (same-eq u a e) first) (λ e. absurd (clash e refl)) (or-cases (same u a) false v)
@@ -117,15 +100,15 @@ module _ (c : Compound) (sound : Sound c) where
       q ∙ ap₂ (λ (x y : ℕ). bitXor (2 ^ x) y) (sound .once k l a b j i) (edges-unique e f) ∙ sym r
 
   -- An odd number of the bonds meets an atom exactly if it is one end of the path and not the other.
-  pub edges-parity : {u S : ℕ} {path : List ℕ} → Edges c (u ∷ path) S → (a : ℕ) → degree c S a % 2 ≡ (is u a + is (last u path) a) % 2
+  pub edges-parity : {u S : ℕ} {path : List ℕ} → Edges c (u ∷ path) S → (a : ℕ) → degree c S a % 2 ≡ (is u a + is (lastL u path) a) % 2
   edges-parity {u} {S} {path} e a =
       let r = edges-walk c e in
       let G = graphOf c in
       let p : Steps = r .by in
-      let ends : lastOf u p ≡ last u path = sym (last-atoms u p) ∙ ap (last u) (r .atoms-are) in
+      let ends : last u p ≡ lastL u path = sym (lastL-atoms u p) ∙ ap (lastL u) (r .atoms-are) in
       ap (λ (x : ℕ). x % 2) (degree-deg c sound S a ∙ deg-ext G (holds S) (edges p) (λ k l. r .bonds-are k) a)
-      ∙ sym (par-cnt (star G (edges p) a) (m c)) ∙ ap val (boundary G u p (r .walk) a) ∙ val-parity (same u a) (same (lastOf u p) a)
-      ∙ ap₂ (λ (x y : ℕ). (x + y) % 2) (is-val u a) (is-val (lastOf u p) a ∙ ap (λ (x : ℕ). is x a) ends)
+      ∙ sym (par-cnt (star G (edges p) a) (m c)) ∙ ap val (boundary G u p (r .walk) a) ∙ val-xor-mod (same u a) (same (last u p) a)
+      ∙ ap₂ (λ (x y : ℕ). (x + y) % 2) (is-val u a) (is-val (last u p) a ∙ ap (λ (x : ℕ). is x a) ends)
 
   -- A ring from three or more different atoms, each bonded to the next and the last to the first.
   pub record RingOf (S : ℕ) (atoms : List ℕ) : Type 0 where
@@ -133,7 +116,7 @@ module _ (c : Compound) (sound : Sound c) where
     pub long : len c S ≡ length atoms
     pub met : (a : ℕ) → (0 < degree c S a) ↔ (a ∈ atoms)
 
-  pub cycle-ring : {u k S : ℕ} {path : List ℕ} → Edges c (u ∷ path) S → Joins c k (last u path) u → Once (u ∷ path) → 2 ≤ length path
+  pub cycle-ring : {u k S : ℕ} {path : List ℕ} → Edges c (u ∷ path) S → Joins c k (lastL u path) u → Once (u ∷ path) → 2 ≤ length path
       → RingOf (bitXor (2 ^ k) S) (u ∷ path)
   cycle-ring {u} {k} {S} {path} e j o three =
       let r = edges-walk c e in
@@ -142,13 +125,13 @@ module _ (c : Compound) (sound : Sound c) where
       let J = joins-graph c j in
       let p : Steps = r .by in
       let T : ℕ = bitXor (2 ^ k) S in
-      let ends : lastOf u p ≡ last u path = sym (last-atoms u p) ∙ ap (last u) (r .atoms-are) in
+      let ends : last u p ≡ lastL u path = sym (lastL-atoms u p) ∙ ap (lastL u) (r .atoms-are) in
       let apart : Distinct u p = once-distinct u p (rw (r .atoms-are) o) in
       let long : steps p ≡ length path = sym (atoms-len p) ∙ ap length (r .atoms-are) in
       let C : Cycle G =
       record {
         k = k;
-        u = last u path;
+        u = lastL u path;
         w = u;
         p = p;
         kIn = J .0;
@@ -156,11 +139,11 @@ module _ (c : Compound) (sound : Sound c) where
         walk = r .walk;
         ends = ends;
         distinct = apart;
-        fresh = close-fresh G Z k (last u path) u p (J .0) (J .1) (r .walk) ends apart (omega arith);
+        fresh = close-fresh G Z k (lastL u path) u p (J .0) (J .1) (r .walk) ends apart (omega arith);
       } in
       let A : Agree G (cset G C) (holds T) = λ i l. sym (holds-flip k S i ∙ ap (xor (same k i)) (r .bonds-are i)) in
       let D : (a : ℕ) → degree c T a ≡ 2 * val (visits u p a) =
-      λ a. degree-deg c sound T a ∙ sym (deg-ext G (cset G C) (holds T) A a) ∙ cycle-deg G C (joins-ne G Z k (last u path) u (J .0) (J .1)) a in
+      λ a. degree-deg c sound T a ∙ sym (deg-ext G (cset G C) (holds T) A a) ∙ cycle-deg G C (joins-ne G Z k (lastL u path) u (J .0) (J .1)) a in
       let seen : (a : ℕ) → 0 < degree c T a → visits u p a ≡ true = λ a h. val-some (visits u p a) (omega (arith, D a)) in
       let met : (a : ℕ) → visits u p a ≡ true → 0 < degree c T a = λ a v. omega (arith, D a, ap val v) in
       record {

@@ -8,13 +8,13 @@ use lib.Bits.{bitXor}
 use lib.ListN.{length}
 use Rattle.spans.specs.Elements.{_∈_, Once}
 use Rattle.bondset.proofs.Laws.{pos-of-ne}
-use Rattle.cycles.specs.Compound.{Compound, Sound, Bonded, Distance}
-use Rattle.cycles.specs.Ring.{len, degree, Closed, Ring, Relevant, Edges}
+use Rattle.cycles.specs.Compound.{Compound, Sound, Bonded}
+use Rattle.cycles.specs.Ring.{len, degree, Ring, Relevant, Edges}
 use Rattle.cycles.specs.Family.{Family, Precedes, Down, Chosen, Candidate, MadeOf, Prototype, Member, Kept}
 use Rattle.cycles.proofs.Shorter.{Shorter, shorter-add, relevant-not-shorter, not-shorter-relevant}
-use Rattle.cycles.proofs.Edges.{last, edges-unique}
+use Rattle.cycles.proofs.Edges.{edges-unique}
 use Rattle.cycles.proofs.PathsDecide.{apart-or-shared, lowest-next, joins-sym}
-use Rattle.cycles.proofs.PathsWays.{xor-cancel-left, sums, Way, way-none, three-ways-closed, two-ways-shorter, three-ways-shorter}
+use Rattle.cycles.proofs.PathsWays.{xor-cancel-left, sums, Way, way-none, two-ways-shorter, three-ways-shorter}
 use Rattle.cycles.proofs.PathsDown.{in-one, distance-unique, down-far, down-some, down-length, down-last, down-first, down-precede, down-near}
 use Rattle.cycles.proofs.PathsDown.{down-once, down-more, down-whole, cut, Wound, wound-at, wind}
 
@@ -33,12 +33,9 @@ even-sum : {L M S : ℕ} (J K P Q : ℕ) → S ≡ bitXor (bitXor P Q) L → L �
 even-sum J K P Q s l m = simp (s, l, m, sums)
 
 module _ (c : Compound) (sound : Sound c) (rank : ℕ → ℕ) where
-  pub down-distance : {r t d : ℕ} {P : List ℕ} → Down c rank r t d P → Distance c t r d
-  down-distance = down-far c rank
-
   pub chosen-down : {r t d : ℕ} {P : List ℕ} → Chosen c rank r t d P → Down c rank r t d P
   chosen-down Chosen.top = Down.top
-  chosen-down (Chosen.step (before, under) bond lowest chosen) = Down.step before (down-distance (under .1)) bond (chosen-down chosen)
+  chosen-down (Chosen.step (before, under) bond lowest chosen) = Down.step before (down-far c rank (under .1)) bond (chosen-down chosen)
 
   chosen-same : {r t s d : ℕ} {P Q : List ℕ} → t ≡ s → Chosen c rank r t d P → Chosen c rank r s d Q → P ≡ Q
   chosen-same e Chosen.top Chosen.top = refl
@@ -111,7 +108,6 @@ module _ (c : Compound) (sound : Sound c) (rank : ℕ → ℕ) where
     long : f .long ≡ 2 * d + steps
 
   link-way : {f : Family} {d S : ℕ} {link : List ℕ} → Candidate c rank f d link → Edges c link S → LinkWay f d S
-  unfolding last
   link-way (Candidate.odd {q = q} less bond underP underQ long) edges = record {
     steps = 1;
     way = record { path = q ∷ []; edges = edges; ends = refl; steps = refl };
@@ -124,12 +120,6 @@ module _ (c : Compound) (sound : Sound c) (rank : ℕ → ℕ) where
     some = omega arith;
     long = omega arith;
   }
-
-  pub made-closed : {f : Family} {d : ℕ} {link P Q : List ℕ} {S : ℕ} → Made f d link P Q S → Closed c S
-  made-closed s =
-      subst (Closed c) (sym (s .made .sum))
-      (three-ways-closed c sound (down-way (s .downP) (s .made .edgesP)) (down-way (s .downQ) (s .made .edgesQ))
-      (link-way (s .candidate) (s .made .edgesLink) .way))
 
   -- What two choices of paths make up differs by rings shorter than the family.
   pub made-differ-shorter : {f : Family} {d : ℕ} {link P Q P′ Q′ : List ℕ} {S T : ℕ} → Made f d link P Q S → Made f d link P′ Q′ T
@@ -213,7 +203,6 @@ module _ (c : Compound) (sound : Sound c) (rank : ℕ → ℕ) where
   apart-closed : {f : Family} {d S T U L : ℕ} {link P Q : List ℕ} → Candidate c rank f d link → Down c rank (f .r) (f .p) d P
       → Down c rank (f .r) (f .q) d Q → Edges c P T → Edges c Q U → Edges c link L → S ≡ bitXor (bitXor T U) L
       → ((a : ℕ) → a ∈ P → a ∈ Q → a ≡ f .r) → MadeRing f link P Q S
-  unfolding last
   apart-closed {T} {U} {P} {Q} (Candidate.odd {q = q} {d = d} {k = h} less bond underP underQ long) downP downQ edgesP edgesQ
       (Edges.more {k} j Edges.point e) sum apart =
       let some = down-some c rank downQ (underQ .0) in
@@ -228,7 +217,7 @@ module _ (c : Compound) (sound : Sound c) (rank : ℕ → ℕ) where
       edgesP edgesQ (Edges.more {k = i} jP (Edges.more {k = j} jQ Edges.point e) e′) sum apart =
       let some = down-some c rank downQ (underQ .0) in
       let size = down-length c rank downP in
-      let far = down-distance (underX .1 .1) in
+      let far = down-far c rank (underX .1 .1) in
       let w = wind c rank sound downQ some edgesQ (Edges.more (joins-sym c jQ) (down-more c rank downP (joins-sym c jP) edgesP) refl)
       (down-last c rank x downP) (Once.more (down-near c rank downP far (omega arith)) (down-once c rank downP)) (omega arith)
       (apart-even (down-near c rank downQ far (omega arith)) apart) in

@@ -1,4 +1,5 @@
 -- The mathematics, from the bridge to graphs up to what is promised of a right report.
+pub mod Number
 pub mod Carry
 pub mod Shorter
 pub mod Edges
@@ -21,6 +22,7 @@ pub mod Swaps
 pub mod Ranks
 pub mod Unique
 pub mod OneRow
+pub mod Order
 pub mod FewClasses
 pub mod FirstMarked
 pub mod Refusals

@@ -31,10 +31,6 @@ module _ (c : Compound) (sound : Sound c) (rank : ℕ → ℕ) (injective : (a b
       let both = made-relevant-kept c sound rank (w .made) relevant (w .long) in
       record { family = w .f; kept = both .0; member = both .1 }
 
-  -- A ring is a member of one family only.
-  pub member-family-unique : {f g : Family} {C : ℕ} → Member c rank f C → Member c rank g C → f ≡ g
-  member-family-unique = member-family c sound rank
-
   -- C is a member of a kept family, and of no other family.
   pub record InOneFamily (C : ℕ) : Type 0 where
     pub found : InFamily C
@@ -44,7 +40,7 @@ module _ (c : Compound) (sound : Sound c) (rank : ℕ → ℕ) (injective : (a b
   pub relevant-in-one-family : {C : ℕ} → Relevant c C → InOneFamily C
   relevant-in-one-family relevant =
       let w = relevant-in-family relevant in
-      record { found = w; only = λ g s. member-family-unique s (w .member) }
+      record { found = w; only = λ g s. member-family c sound rank s (w .member) }
 
   -- So many down paths, each once.
   pub record AllDown (r t d count : ℕ) : Type 0 where

@@ -14,14 +14,15 @@ use lib.ListN.{length, getD}
 use Rattle.spans.specs.Elements.{_∈_, Once}
 use Rattle.bondset.specs.Sets.{bit}
 use Rattle.bondset.proofs.Laws.{lt-or-ge, trailing}
+use Rattle.graphs.specs.AtomList.{lastL}
 use Rattle.cycles.specs.Compound.{Compound, m, one, other, Joins, Sound, Distance}
 use Rattle.cycles.specs.Ring.{len, meets, degreeTo, degree, Ring, Relevant, Edges}
 use Rattle.cycles.specs.Family.{Family, Precedes, Down, Candidate}
-use Rattle.cycles.proofs.Edges.{last, cycle-ring}
+use Rattle.cycles.proofs.Edges.{cycle-ring}
 use Rattle.cycles.proofs.Arcs.{Around, around}
 use Rattle.cycles.proofs.PathsDecide.{joins-sym}
 use Rattle.cycles.proofs.PathsWays.{sums}
-use Rattle.cycles.proofs.PathsDown.{down-more}
+use Rattle.cycles.proofs.PathsDown.{down-before, down-more}
 use Rattle.cycles.proofs.Families.{Made}
 
 -- Of the numbers below n that have P, the highest in rank.
@@ -158,10 +159,9 @@ module _ (c : Compound) (sound : Sound c) (rank : ℕ → ℕ) where
     edges : Edges c path S
 
   -- The atoms t ∷ rest, each nearer to r than the one before, and the last bonded to r, are a down path.
-  descend : {r t K W : ℕ} {rest : List ℕ} → Edges c (t ∷ rest) W → Joins c K (last t rest) r
+  descend : {r t K W : ℕ} {rest : List ℕ} → Edges c (t ∷ rest) W → Joins c K (lastL t rest) r
       → ((s n : ℕ) → s + n ≡ suc (length rest) → 0 < n → Distance c (getD (t ∷ rest) s 0) r n) → ((a : ℕ) → a ∈ (t ∷ rest) → Precedes c rank a r)
       → Descent r t (suc (length rest)) (bitXor (2 ^ K) W)
-  unfolding last
   descend {K} Edges.point closes far before = record {
     path = _;
     down = Down.step (before _ _∈_.first) (far 0 1 (omega arith) (omega arith)) (K, closes) Down.top;
@@ -182,7 +182,7 @@ module _ (c : Compound) (sound : Sound c) (rank : ℕ → ℕ) where
     up : List ℕ
     down : Down c rank r t j up
     edges : Edges c up U
-    closes : Joins c K (last t rest) r
+    closes : Joins c K (lastL t rest) r
     sum : C ≡ bitXor (2 ^ K) (bitXor U W)
     once : Once (t ∷ rest)
     long : suc (j + length rest) ≡ k
@@ -225,7 +225,6 @@ module _ (c : Compound) (sound : Sound c) (rank : ℕ → ℕ) where
   }
 
   advance : {r k j C t W : ℕ} {rest : List ℕ} → Edges c (t ∷ rest) W → Stand r k j C t W rest → 2 * suc j ≤ k → Stop r k (suc j) C
-  unfolding last
   advance Edges.point w half = absurd (omega (arith, w .long))
   advance {j} (Edges.more {b = b} {k = i} {S = S} {path = path} joins edges e) w half = record {
     t = b;
@@ -252,13 +251,8 @@ module _ (c : Compound) (sound : Sound c) (rank : ℕ → ℕ) where
   climb w zero half = w
   climb w (suc j) half = let v = climb w j (omega arith) in advance (v .edges) (v .stand) half
 
-  down-before : {r t d : ℕ} {P : List ℕ} → Down c rank r t d P → 0 < d → Precedes c rank t r
-  down-before Down.top some = absurd (omega arith)
-  down-before (Down.step before far bond down) some = before
-
   module _ {r k d C : ℕ} (some : 0 < d) (size : len c C ≡ k) where
     stand-odd : {t W : ℕ} {rest : List ℕ} → k ≡ 2 * d + 1 → Edges c (t ∷ rest) W → Stand r k d C t W rest → Found C
-    unfolding last
     stand-odd long Edges.point w = absurd (omega (arith, w .long))
     stand-odd {t} long (Edges.more {b = q} {k = j} {S = S} {path = path} joins edges e) w =
         let count : suc (d + suc (length path)) ≡ k = w .long in
@@ -266,7 +260,7 @@ module _ (c : Compound) (sound : Sound c) (rank : ℕ → ℕ) where
         let same : suc (length path) ≡ d = omega arith in
         let downQ = subst (λ (n : ℕ). Down c rank r q n (below .path)) same (below .down) in
         let total = odd-sum (2 ^ w .K) (2 ^ j) (w .U) S (w .sum) e refl in
-        let beforeP = down-before (w .down) some in
+        let beforeP = down-before c rank (w .down) some in
         let beforeQ = w .before q _∈_.first in
         let other = fresh-other (w .once) _∈_.first in
         ⊎-elim (λ less. found-odd less joins beforeP beforeQ (w .down) downQ (w .edges) (below .edges) total (size ∙ long))
@@ -274,7 +268,6 @@ module _ (c : Compound) (sound : Sound c) (rank : ℕ → ℕ) where
         (turn-sum (w .U) (bitXor (2 ^ w .K) S) (bitXor (2 ^ j) 0) total) (size ∙ long)) (lt-or-ge t q)
 
     stand-even : {t W : ℕ} {rest : List ℕ} → k ≡ 2 * suc d → Edges c (t ∷ rest) W → Stand r k d C t W rest → Found C
-    unfolding last
     stand-even long Edges.point w = absurd (omega (arith, w .long))
     stand-even long (Edges.more joins Edges.point e) w = absurd (omega (arith, w .long))
     stand-even {t} long (Edges.more {b = x} {k = i} toX (Edges.more {b = q} {k = j} {S = S} {path = path} toQ edges e) e′) w =
@@ -283,7 +276,7 @@ module _ (c : Compound) (sound : Sound c) (rank : ℕ → ℕ) where
         let same : suc (length path) ≡ d = omega arith in
         let downQ = subst (λ (n : ℕ). Down c rank r q n (below .path)) same (below .down) in
         let total = even-sum (2 ^ w .K) (2 ^ i) (2 ^ j) (w .U) S (w .sum) e′ e refl in
-        let beforeP = down-before (w .down) some in
+        let beforeP = down-before c rank (w .down) some in
         let beforeX = w .before x _∈_.first in
         let beforeQ = w .before q (_∈_.later _∈_.first) in
         let downX = Down.step beforeX (w .rise 0 (suc d) (omega arith) (omega arith) (omega arith)) (i, joins-sym c toX) (w .down) in

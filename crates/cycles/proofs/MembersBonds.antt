@@ -8,9 +8,8 @@ use native.Mathlib.Omega.{arith}
 use lib.Bits.{bitXor}
 use Rattle.spans.specs.Elements.{_∈_, Once}
 use Rattle.graphs.specs.Count.{xor, same}
-use Rattle.graphs.specs.Number.{holds}
 use Rattle.graphs.proofs.Basics.{clash, not-true, same-eq, same-is, same-ne}
-use Rattle.graphs.proofs.Number.{holds-xor, holds-zero, holds-pow}
+use Rattle.cycles.proofs.Number.{holds, holds-xor, holds-zero, holds-pow}
 use Rattle.cycles.specs.Compound.{Compound, Joins, Sound, Distance}
 use Rattle.cycles.specs.Ring.{Edges}
 use Rattle.cycles.specs.Family.{Down}

@@ -8,9 +8,8 @@ use native.Mathlib.Omega.{arith}
 use lib.Bits.{bitXor, xor-comm}
 use Rattle.spans.specs.Elements.{_∈_}
 use Rattle.graphs.specs.Count.{xor}
-use Rattle.graphs.specs.Number.{holds}
 use Rattle.graphs.proofs.Basics.{not-true}
-use Rattle.graphs.proofs.Number.{holds-xor}
+use Rattle.cycles.proofs.Number.{holds, holds-xor}
 use Rattle.cycles.specs.Compound.{Compound, Sound, Distance}
 use Rattle.cycles.specs.Ring.{degree, Edges}
 use Rattle.cycles.specs.Family.{Family, Precedes, Down, Candidate, Member}

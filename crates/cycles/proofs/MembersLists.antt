@@ -1,13 +1,13 @@
 -- Lists without repeats: how long they are, and the list of what all pairs make.
 use mathlib.Core.Path.{_≡_, refl, ap, _∙_, subst}
 use mathlib.Core.List.{List, [], _∷_, _++_}
-use mathlib.Core.Logic.{_⊎_, inl, inr, _↔_, ⊎-elim}
+use mathlib.Core.Logic.{_↔_, ⊎-elim}
 use Prim.Native.Nat.{suc, _*_, _≤_}
 use native.Mathlib.Nat.{suc-mul}
 use native.Mathlib.Omega.{arith}
 use lib.ListN.{length, length-append}
 use Rattle.spans.specs.Elements.{_∈_, Once}
-use Rattle.spans.proofs.Lists.{Pick}
+use Rattle.spans.proofs.Lists.{Pick, in-left, in-right, in-append}
 use Rattle.cycles.proofs.PathsDecide.{not-in-none}
 
 module _ {X : Type 0} where
@@ -39,19 +39,6 @@ module _ {X : Type 0} where
       let to = once-length-le s (λ a. same a .0) in
       let back = once-length-le t (λ a. same a .1) in
       omega arith
-
-  pub in-left : {a : X} {xs : List X} (ys : List X) → a ∈ xs → a ∈ (xs ++ ys)
-  in-left ys _∈_.first = _∈_.first
-  in-left ys (_∈_.later h) = _∈_.later (in-left ys h)
-
-  pub in-right : {a : X} (xs : List X) {ys : List X} → a ∈ ys → a ∈ (xs ++ ys)
-  in-right [] h = h
-  in-right (x ∷ xs) h = _∈_.later (in-right xs h)
-
-  pub in-append : {a : X} (xs ys : List X) → a ∈ (xs ++ ys) → (a ∈ xs) ⊎ (a ∈ ys)
-  in-append [] ys h = inr h
-  in-append (x ∷ xs) ys _∈_.first = inl _∈_.first
-  in-append (x ∷ xs) ys (_∈_.later h) = ⊎-elim (λ l. inl (_∈_.later l)) inr (in-append xs ys h)
 
   pub once-append : {xs ys : List X} → Once xs → Once ys → ((a : X) → a ∈ xs → a ∈ ys → ⊥) → Once (xs ++ ys)
   once-append Once.none t apart = t

@@ -8,12 +8,12 @@ use Rattle.cycles.specs.Ring.{Relevant}
 use Rattle.cycles.specs.Family.{Family, Member}
 use Rattle.cycles.specs.Rows.{Row, At, Ascending, Report, Right}
 use Rattle.cycles.proofs.Families.{member-relevant}
-use Rattle.cycles.proofs.Members.{member-family-unique}
+use Rattle.cycles.proofs.MembersCorners.{member-family}
 use Rattle.cycles.proofs.Bases.{ascending-rest}
 use Rattle.cycles.proofs.Ranks.{in-map, at-element, element-at, at-unique, relevant-in-row}
 use Rattle.cycles.proofs.Unique.{ascending-fresh}
 
-at-map : {X Y : Type 0} (f : X → Y) {x : X} {xs : List X} {k : ℕ} → At xs k x → At (map f xs) k (f x)
+pub at-map : {X Y : Type 0} (f : X → Y) {x : X} {xs : List X} {k : ℕ} → At xs k x → At (map f xs) k (f x)
 at-map f At.here = At.here
 at-map f (At.later a) = At.later (at-map f a)
 
@@ -42,7 +42,7 @@ module _ (c : Compound) (sound : Sound c) (rank : ℕ → ℕ) where
     pub row-place-unique : {j k C : ℕ} {u v : Row} → At (R .rows) j u → At (R .rows) k v → Member c rank (u .family) C → Member c rank (v .family) C → j ≡ k
     row-place-unique {j} {u} {v} a b p q =
         ascending-place (right .ordered)
-        (subst (At (map (λ row. row .family) (R .rows)) j) (member-family-unique c sound rank injective p q) (at-map (λ row. row .family) a))
+        (subst (At (map (λ row. row .family) (R .rows)) j) (member-family c sound rank p q) (at-map (λ row. row .family) a))
         (at-map (λ row. row .family) b)
 
     -- "Every relevant ring is in exactly one reported family."

@@ -6,17 +6,17 @@ use Prim.Native.Nat.{ℕ, suc, _+_, _^_, _<_, _≤_}
 use native.Mathlib.Omega.{arith}
 use lib.Bits.{bitXor, xor-zero-l}
 use Rattle.bondset.proofs.Laws.{xor-assoc}
+use Rattle.graphs.specs.AtomList.{lastL}
 use lib.ListN.{length}
 use Rattle.spans.specs.Elements.{_∈_, Once}
 use Rattle.cycles.specs.Compound.{Compound, Joins, Walk, Distance, Sound}
 use Rattle.cycles.specs.Ring.{Edges}
 use Rattle.cycles.specs.Family.{Precedes, Down}
-use Rattle.cycles.proofs.Edges.{last, RingOf, cycle-ring}
+use Rattle.cycles.proofs.Edges.{RingOf, cycle-ring}
 use Rattle.cycles.proofs.PathsDecide.{not-in-none, joins-sym}
 use Rattle.cycles.proofs.PathsWays.{sums, Way, way-here, way-step}
 
-last-in : (u : ℕ) (path : List ℕ) → last u path ∈ (u ∷ path)
-unfolding last
+last-in : (u : ℕ) (path : List ℕ) → lastL u path ∈ (u ∷ path)
 last-in u [] = _∈_.first
 last-in u (v ∷ path) = _∈_.later (last-in v path)
 
@@ -46,8 +46,7 @@ module _ (c : Compound) (rank : ℕ → ℕ) where
   down-length Down.top = refl
   down-length (Down.step before far bond down) = ap suc (down-length down)
 
-  pub down-last : {r t d : ℕ} {P : List ℕ} (u : ℕ) → Down c rank r t d P → last u P ≡ r
-  unfolding last
+  pub down-last : {r t d : ℕ} {P : List ℕ} (u : ℕ) → Down c rank r t d P → lastL u P ≡ r
   down-last u Down.top = refl
   down-last u (Down.step before far bond down) = down-last _ down
 
@@ -55,6 +54,11 @@ module _ (c : Compound) (rank : ℕ → ℕ) where
   pub down-some : {r t d : ℕ} {P : List ℕ} → Down c rank r t d P → Precedes c rank t r → 0 < d
   down-some Down.top before = absurd (omega arith)
   down-some (Down.step before far bond down) precedes = omega arith
+
+  -- An atom with a path of some steps down to r precedes r.
+  pub down-before : {r t d : ℕ} {P : List ℕ} → Down c rank r t d P → 0 < d → Precedes c rank t r
+  down-before Down.top some = absurd (omega arith)
+  down-before (Down.step before far bond down) some = before
 
   pub down-first : {r t d : ℕ} {P : List ℕ} → Down c rank r t d P → t ∈ P
   down-first Down.top = _∈_.first
@@ -103,7 +107,7 @@ module _ (c : Compound) (rank : ℕ → ℕ) where
       let w = down-whole down in
       record { bonds = bitXor (2 ^ bond .0) (w .bonds); way = way-step c (bond .1) (w .way); edges = down-more down (bond .1) (w .edges) }
 
-  edges-at : {S T : ℕ} {P : List ℕ} → S ≡ T → Edges c P S → Edges c P T
+  pub edges-at : {S T : ℕ} {P : List ℕ} → S ≡ T → Edges c P S → Edges c P T
   edges-at {P} e edges = subst (Edges c P) e edges
 
   cut-first : {r t d : ℕ} {P : List ℕ} → Down c rank r t d P → Cut r t t d P
@@ -151,7 +155,7 @@ module _ (c : Compound) (rank : ℕ → ℕ) where
     pub wound-at : {d S S′ : ℕ} {Q acc : List ℕ} → S ≡ S′ → Wound d Q acc S → Wound d Q acc S′
     wound-at {d} {Q} {acc} e w = subst (Wound d Q acc) e w
 
-    wind-last : {r t k T : ℕ} {acc : List ℕ} → Joins c k t r → Edges c (t ∷ acc) T → last t acc ≡ r → Once (t ∷ acc) → 2 ≤ length acc
+    wind-last : {r t k T : ℕ} {acc : List ℕ} → Joins c k t r → Edges c (t ∷ acc) T → lastL t acc ≡ r → Once (t ∷ acc) → 2 ≤ length acc
         → Wound 1 (t ∷ r ∷ []) acc (bitXor (2 ^ k) T)
     wind-last {r} {t} {k} {acc} j along ends once two = record {
       atoms = t ∷ acc;
@@ -197,9 +201,8 @@ module _ (c : Compound) (rank : ℕ → ℕ) where
     fresh before apart h = omega (arith, before, ap rank (apart _ _∈_.first h))
 
     -- A way acc to r, started by the bond from t, is closed by a down path from t that meets acc in r alone.
-    pub wind : {r t d T U : ℕ} {Q acc : List ℕ} → Down c rank r t d Q → 0 < d → Edges c Q U → Edges c (t ∷ acc) T → last t acc ≡ r → Once acc
+    pub wind : {r t d T U : ℕ} {Q acc : List ℕ} → Down c rank r t d Q → 0 < d → Edges c Q U → Edges c (t ∷ acc) T → lastL t acc ≡ r → Once acc
         → 2 ≤ length acc → ((a : ℕ) → a ∈ Q → a ∈ acc → a ≡ r) → Wound d Q acc (bitXor T U)
-    unfolding last
     wind Down.top some edges along ends once two apart = absurd (omega arith)
     wind {T} (Down.step before far bond Down.top) some (Edges.more {k} j Edges.point e) along ends once two apart =
         wound-at (last-sum (2 ^ k) T e) (wind-last j along ends (Once.more (fresh before apart) once) two)

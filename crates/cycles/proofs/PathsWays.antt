@@ -6,10 +6,11 @@ use native.Mathlib.Omega.{arith}
 use lib.Bits.{bitXor, xor-comm, xor-self, xor-zero-l, xor-zero-r, xor-lt}
 use lib.ListN.{length}
 use Rattle.bondset.proofs.Laws.{xor-assoc, length-sum}
+use Rattle.graphs.specs.AtomList.{lastL}
 use Rattle.cycles.specs.Compound.{Compound, m, Joins, Sound}
 use Rattle.cycles.specs.Ring.{len, degree, Closed, Edges}
 use Rattle.cycles.proofs.Shorter.{Shorter, degree-sum-parity, closed-shorter}
-use Rattle.cycles.proofs.Edges.{last, is, edges-bonds, edges-length, edges-parity}
+use Rattle.cycles.proofs.Edges.{is, edges-bonds, edges-length, edges-parity}
 
 pub xor-left-comm : (a b c : ℕ) → bitXor a (bitXor b c) ≡ bitXor b (bitXor a c)
 xor-left-comm a b c = sym (xor-assoc a b c) ∙ ap (λ (x : ℕ). bitXor x c) (xor-comm a b) ∙ xor-assoc b a c
@@ -34,22 +35,19 @@ module _ (c : Compound) where
   pub record Way (u v n S : ℕ) : Type 0 where
     pub path : List ℕ
     pub edges : Edges c (u ∷ path) S
-    pub ends : last u path ≡ v
+    pub ends : lastL u path ≡ v
     pub steps : length path ≡ n
 
   pub way-here : (u : ℕ) → Way u u 0 0
-  unfolding last
   way-here u = record { path = []; edges = Edges.point; ends = refl; steps = refl }
 
   pub way-step : {k u v w n S : ℕ} → Joins c k u w → Way w v n S → Way u v (suc n) (bitXor (2 ^ k) S)
-  unfolding last
   way-step {w} j way = record { path = w ∷ way .path; edges = Edges.more j (way .edges) refl; ends = way .ends; steps = ap suc (way .steps) }
 
   pub way-none : {u v n S : ℕ} → Way u v n S → n ≡ 0 → u ≡ v
-  unfolding last
   way-none {u} {v} way z = go (way .path) (way .ends) (way .steps ∙ z)
     where
-      go : (path : List ℕ) → last u path ≡ v → length path ≡ 0 → u ≡ v
+      go : (path : List ℕ) → lastL u path ≡ v → length path ≡ 0 → u ≡ v
       go [] e s = e
       go (a ∷ path) e s = absurd (omega arith)
 

@@ -1,12 +1,13 @@
 -- Classes and relative ranks: what a class number and a relative rank say of rings and of every minimum basis.
 use mathlib.Core.Path.{_≡_, refl, sym, _∙_, ap, subst}
-use mathlib.Core.Bool.{Bool, true, false, cond, _&&_}
+use mathlib.Core.Bool.{cond, _&&_, and-false}
 use mathlib.Core.List.{List, [], _∷_, _++_, map}
 use mathlib.Core.Logic.{_↔_, _⊎_, inl, inr}
 use Prim.Native.Nat.{ℕ, zero, suc, _+_, _<_}
 use native.Mathlib.Omega.{arith}
 use native.Mathlib.Decide.{ℕ-discrete}
-use lib.Dec.{T, eqb, eqb→eq, eqb-refl}
+use borrow.Author.Tests.{eq-eqb, ne-eqb}
+use lib.Dec.{eqb}
 use lib.ListN.{length}
 use Rattle.spans.specs.Elements.{_∈_}
 use Rattle.spans.specs.Basis.{All, Holding}
@@ -105,24 +106,6 @@ module _ {X : Type 0} where
   holding-iff f g (Holding.inn {x = x} k h) = Holding.inn (f x k) (holding-iff f g h)
   holding-iff f g (Holding.out {x = x} k h) = Holding.out (λ l. k (g x l)) (holding-iff f g h)
 
-is-true : (b : Bool) → T b → b ≡ true
-is-true true t = refl
-is-true false t = absurd t
-
-is-false : (b : Bool) → (T b → ⊥) → b ≡ false
-is-false true n = absurd (n tt)
-is-false false n = refl
-
-and-false : (b : Bool) → (b && false) ≡ false
-and-false true = refl
-and-false false = refl
-
-eqb-same : {a b : ℕ} → a ≡ b → eqb a b ≡ true
-eqb-same {a} {b} e = is-true (eqb a b) (subst (λ (x : ℕ). T (eqb a x)) e (eqb-refl a))
-
-eqb-different : {a b : ℕ} → ¬ (a ≡ b) → eqb a b ≡ false
-eqb-different {a} {b} n = is-false (eqb a b) (λ t. n (eqb→eq a b t))
-
 -- How many rows of class i are marked.
 abbrev markedIn : ℕ → List Row → ℕ
 markedIn i rows = howMany (λ row. eqb (row .class) i && eqb (row .mark) 1) rows
@@ -133,11 +116,11 @@ count-none i = refl
 
 count-in : (i : ℕ) (row : Row) (rows : List Row) → row .class ≡ i → row .mark ≡ 1 → markedIn i (row ∷ rows) ≡ suc (markedIn i rows)
 unfolding howMany
-count-in i row rows e d = rw (eqb-same e, eqb-same d) (omega arith)
+count-in i row rows e d = rw (eq-eqb (row .class) i e, eq-eqb (row .mark) 1 d) (omega arith)
 
 count-other : (i : ℕ) (row : Row) (rows : List Row) → ¬ (row .class ≡ i) → markedIn i (row ∷ rows) ≡ markedIn i rows
 unfolding howMany
-count-other i row rows n = rw (eqb-different n) (omega arith)
+count-other i row rows n = rw (ne-eqb (row .class) i n) (omega arith)
 
 count-unmarked : (i : ℕ) (row : Row) (rows : List Row) → row .mark ≡ 0 → markedIn i (row ∷ rows) ≡ markedIn i rows
 unfolding howMany
@@ -150,10 +133,11 @@ class-rows-at rows base (f ∷ fs) i At.here e = (f, At.here, ap (λ (l : ℕ). 
 class-rows-at rows base (f ∷ fs) i (At.later a) e =
     let (g, b, d) = class-rows-at rows (suc base) fs i a (omega arith) in (g, At.later b, d)
 
-length-class-rows : (rows : List Row) (base : ℕ) (fs : List Family) → length (classRows rows base fs) ≡ length fs
+-- There is a class row for each first family.
+pub length-classRows : (rows : List Row) (base : ℕ) (fs : List Family) → length (classRows rows base fs) ≡ length fs
 unfolding classRows
-length-class-rows rows base [] = refl
-length-class-rows rows base (f ∷ fs) = ap suc (length-class-rows rows (suc base) fs)
+length-classRows rows base [] = refl
+length-classRows rows base (f ∷ fs) = ap suc (length-classRows rows (suc base) fs)
 
 at-class-rows : (rows : List Row) (base : ℕ) {fs : List Family} {j : ℕ} {g : Family} → At fs j g → (t : ClassRow) × At (classRows rows base fs) j t
 unfolding classRows
@@ -381,7 +365,7 @@ module _ (c : Compound) (sound : Sound c) (rank : ℕ → ℕ) where
 
     -- There are as many class rows as classes.
     pub class-rows-length : length (R .classRows) ≡ R .classes
-    class-rows-length = ap length (right .classRows-are) ∙ length-class-rows (R .rows) 0 (right .firsts) ∙ sym (right .classes-are)
+    class-rows-length = ap length (right .classRows-are) ∙ length-classRows (R .rows) 0 (right .firsts) ∙ sym (right .classes-are)
 
     module _ {g : ℕ} {t : ClassRow} (a : At (R .classRows) g t) where
       class-row-is : (f : Family) × At (right .firsts) g f × (t ≡ classRow (R .rows) g f)

@@ -2,24 +2,22 @@
 use mathlib.Core.Path.{_≡_, refl, sym, ap, ap₂, _∙_}
 use mathlib.Core.List.{List, [], _∷_, _++_}
 use mathlib.Core.Logic.{_⊎_, inl, inr, ⊎-elim}
-use Prim.Native.Nat.{ℕ, zero, suc, _+_, _*_, _%_, _^_, _<_, _≤_}
+use Prim.Native.Nat.{ℕ, zero, suc, _+_, _*_, _%_, _^_, _<_}
 use native.Mathlib.Omega.{arith}
 use lib.Pow.{pow-pos}
-use lib.Bits.{bitXor, differ, xor-lt, xor-zero-l, xor-zero-r}
+use lib.Bits.{bitXor, differ, xor-lt, xor-zero-l}
 use Rattle.spans.specs.Basis.{All, Sum}
-use Rattle.spans.proofs.Lists.{all-append, all-map}
+use Rattle.spans.proofs.Lists.{all-append}
 use Rattle.bondset.specs.Sets.{bit}
 use Rattle.bondset.proofs.Group.{bondSets}
-use Rattle.bondset.proofs.Laws.{cases2, bit-lt, bit-xor, xor-assoc, zero-bit}
+use Rattle.bondset.proofs.Laws.{cases2, bit-lt, bit-xor, xor-assoc, zero-bit, lt-or-ge}
 use Rattle.graphs.specs.Count.{xor, cnt}
 use Rattle.graphs.specs.Graph.{BondSet, Agree}
-use Rattle.graphs.specs.Number.{holds, num}
 use Rattle.graphs.specs.Ring.{Each, sumAll, SumOf, Shorter as ShorterIn}
-use Rattle.graphs.proofs.Basics.{lt-or-le}
 use Rattle.graphs.proofs.Count.{cnt-ext}
 use Rattle.graphs.proofs.Decide as Decide
 use Rattle.graphs.proofs.Decompose.{ring-ext, small-sum}
-use Rattle.graphs.proofs.Number.{holds-xor, holds-zero, holds-ext, num-lt, holds-num}
+use Rattle.cycles.proofs.Number.{holds, num, holds-xor, holds-zero, holds-ext, num-lt, holds-num}
 use Rattle.cycles.specs.Compound.{Compound, m, Sound}
 use Rattle.cycles.specs.Ring.{len, meets, degreeTo, degree, Closed, Ring, Relevant}
 use Rattle.cycles.proofs.Carry.{graphOf, simple, len-cnt, empty-zero, closed-graph, graph-ring}
@@ -46,10 +44,6 @@ module _ (c : Compound) where
   unfolding Sum bondSets
   shorter-zero k = record { rings = []; short = All.nil; sum = refl }
 
-  pub shorter-ring : {k R : ℕ} → Ring c R → len c R < k → Shorter k R
-  unfolding Sum bondSets
-  shorter-ring {R = R} r l = record { rings = R ∷ []; short = All.cons (r, l) All.nil; sum = xor-zero-r R }
-
   pub shorter-add : {k S T : ℕ} → Shorter k S → Shorter k T → Shorter k (bitXor S T)
   shorter-add s t =
       record {
@@ -57,9 +51,6 @@ module _ (c : Compound) where
         short = all-append (s .short) (t .short);
         sum = sum-append (s .rings) (t .rings) ∙ ap₂ bitXor (s .sum) (t .sum);
       }
-
-  pub shorter-mono : {j k S : ℕ} → j ≤ k → Shorter j S → Shorter k S
-  shorter-mono l s = record { rings = s .rings; short = all-map (λ R h. (h .0, omega (arith, h .1))) (s .short); sum = s .sum }
 
   degreeTo-sum-parity : (n S T a : ℕ) → degreeTo c n (bitXor S T) a % 2 ≡ (degreeTo c n S a + degreeTo c n T a) % 2
   unfolding degreeTo
@@ -88,9 +79,6 @@ module _ (c : Compound) where
   unfolding Sum bondSets
   rings-closed All.nil = closed-zero
   rings-closed (All.cons h r) = closed-sum (h .0 .closed) (rings-closed r)
-
-  pub shorter-closed : {k S : ℕ} → Shorter k S → Closed c S
-  shorter-closed s = rw (s .sum) at (rings-closed (s .short))
 
   pub relevant-not-shorter : {S : ℕ} → Relevant c S → Shorter (len c S) S → ⊥
   relevant-not-shorter r s = r .alone (s .rings) (s .short) (s .sum)
@@ -141,4 +129,4 @@ module _ (c : Compound) (sound : Sound c) where
       (λ p. ⊎-elim (λ r. inl (graph-ring c sound (h .bonds) r)) (λ s. inr (rw (len-cnt c S) (graph-shorter (h .bonds) s)))
       (Decide.ring-or-shorter (graphOf c) (simple c sound) (holds S) (closed-graph c sound h) p))
       (λ p. inr (rw (empty-zero c (h .bonds) (omega arith)) (shorter-zero c (len c 0))))
-      (lt-or-le 0 (cnt (holds S) (m c)))
+      (lt-or-ge 0 (cnt (holds S) (m c)))

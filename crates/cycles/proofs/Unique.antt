@@ -30,7 +30,7 @@ less-trans (Less.here h) (Less.later l) = Less.here h
 less-trans (Less.later h) (Less.here l) = Less.here l
 less-trans (Less.later h) (Less.later l) = Less.later (less-trans h l)
 
-ascending-less : {f : Family} {fs : List Family} → Ascending (f ∷ fs) → All (λ g. Less (key f) (key g)) fs
+pub ascending-less : {f : Family} {fs : List Family} → Ascending (f ∷ fs) → All (λ g. Less (key f) (key g)) fs
 ascending-less Ascending.one = All.nil
 ascending-less (Ascending.more l a) = All.cons l (all-map (λ g h. less-trans l h) (ascending-less a))
 

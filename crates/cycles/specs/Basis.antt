@@ -18,8 +18,9 @@ module _ (c : Compound) where
   abbrev pub Minimum : List ℕ → Type 0
   Minimum B = Graded.Minimum bondSets (len c) (Closed c) B
 
-  -- "if they are the same ring, or if some minimum basis holds the first and, with the first replaced by the second, is
-  -- a minimum basis again"
+  -- "Two relevant rings of equal length are interchangeable if they are the same ring, or if some minimum basis holds the first and, with the first
+  -- replaced by the second, is a minimum basis again." That C and D are relevant rings is asked where the relation is used; that they are of equal
+  -- length follows.
   pub data Interchangeable (C D : ℕ) : Type 0 where
     same : C ≡ D → Interchangeable C D
     swap : (before after : List ℕ) → Minimum (before ++ C ∷ after) → Minimum (before ++ D ∷ after) → Interchangeable C D

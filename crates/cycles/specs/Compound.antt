@@ -10,13 +10,15 @@ pub record Compound : Type 0 where
   pub n : ℕ
   pub bytes : List ℕ
 
+-- The number of bonds.
 abbrev pub m : Compound → ℕ
 m c = length (c .bytes) / 2
 
--- The two atom numbers of bond k, in the order given.
+-- The first of the two atom numbers of bond k, in the order given.
 abbrev pub one : Compound → ℕ → ℕ
 one c k = getD (c .bytes) (2 * k) 0
 
+-- The second.
 abbrev pub other : Compound → ℕ → ℕ
 other c k = getD (c .bytes) (2 * k + 1) 0
 
@@ -26,6 +28,7 @@ module _ (c : Compound) where
     given : {a b : ℕ} → k < m c → one c k ≡ a → other c k ≡ b → Joins k a b
     turned : {a b : ℕ} → k < m c → other c k ≡ a → one c k ≡ b → Joins k a b
 
+  -- Some bond joins atoms a and b.
   abbrev pub Bonded : ℕ → ℕ → Type 0
   Bonded a b = (k : ℕ) × Joins k a b
 

@@ -41,6 +41,7 @@ module _ (c : Compound) where
     pub atoms : WrongAtoms → ⊥
     pub bytes : WrongBytes → ⊥
 
+  -- No bond before bond k gives 3, 4 or 5.
   abbrev pub FineBelow : ℕ → Type 0
   FineBelow k = (j : ℕ) → j < k → Fine j
 

@@ -20,6 +20,7 @@ module _ (c : Compound) where
   abbrev pub meets : ℕ → ℕ → ℕ
   meets k a = cond (eqb (one c k) a || eqb (other c k) a) 1 0
 
+  -- How many bonds of S before bond k atom a meets.
   unfoldable pub degreeTo : ℕ → ℕ → ℕ → ℕ
   degreeTo zero S a = 0
   degreeTo (suc k) S a = bit S k * meets k a + degreeTo k S a
@@ -28,7 +29,7 @@ module _ (c : Compound) where
   abbrev pub degree : ℕ → ℕ → ℕ
   degree S a = degreeTo (m c) S a
 
-  -- "A bond set is closed if every atom meets an even number of its bonds."
+  -- "A bond set is closed if every atom meets an even number of its bonds." All its bonds are bonds of the compound.
   pub record Closed (S : ℕ) : Type 0 where
     pub bonds : S < 2 ^ m c
     pub even : (a : ℕ) → degree S a % 2 ≡ 0

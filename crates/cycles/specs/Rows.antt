@@ -33,10 +33,12 @@ pub record ClassRow : Type 0 where
 abbrev pub key : Family → List ℕ
 key f = f .long ∷ f .r ∷ f .x ∷ f .p ∷ f .q ∷ []
 
+-- Lists of numbers in dictionary order.
 pub data Less : List ℕ → List ℕ → Type 0 where
   here : {a b : ℕ} {xs ys : List ℕ} → a < b → Less (a ∷ xs) (b ∷ ys)
   later : {a : ℕ} {xs ys : List ℕ} → Less xs ys → Less (a ∷ xs) (a ∷ ys)
 
+-- Each family comes before the next.
 pub data Ascending : List Family → Type 0 where
   none : Ascending []
   one : {f : Family} → Ascending (f ∷ [])
@@ -69,6 +71,7 @@ unfoldable pub classRows : List Row → ℕ → List Family → List ClassRow
 classRows rows i [] = []
 classRows rows i (f ∷ fs) = classRow rows i f ∷ classRows rows (suc i) fs
 
+-- "The sum of the sizes."
 unfoldable pub sizes : List Row → ℕ
 sizes [] = 0
 sizes (row ∷ rows) = row .size + sizes rows
@@ -114,6 +117,10 @@ pub record Report : Type 0 where
   pub rings : ℕ
   pub rows : List Row
   pub classRows : List ClassRow
+
+-- "rings would exceed 18,446,744,073,709,551,615"
+abbrev pub most : ℕ
+most = 18446744073709551615
 
 -- The report is the right one for the compound: every part of it has its one meaning.
 pub record Right (c : Compound) (rank : ℕ → ℕ) (R : Report) : Type 0 where

@@ -19,7 +19,8 @@ use Rattle.model.specs.Fold.{through, count}
 use Rattle.model.specs.State.{State, marked, unmarked, kept}
 use Rattle.model.specs.Run.{Numbering, blank, more, numbered, classed, settled}
 use Rattle.model.proofs.Related.{through-related}
-use Rattle.ledger.specs.Ledger.{Ledger, Numbers, familyBytes, classBytes, putFamily, openClass, moreClass, markedIn, summedIn, entered, numberedIn, patched, settledIn}
+use Rattle.rows.specs.Rows.{Numbers, familyBytes, classBytes, putFamily, openClass, moreClass, numberedIn, patched}
+use Rattle.ledger.specs.Ledger.{Ledger, markedIn, summedIn, entered, settledIn}
 use Rattle.engine.proofs.Laid.{laid, length-laid, laid-out, laid-next, getD-laid, set-laid, put, put-laid}
 
 -- ---- rows and class rows as bytes

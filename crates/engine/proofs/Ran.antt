@@ -1,6 +1,6 @@
 -- The engine's run over the atoms and bonds of an accepted compound leaves the bytes of the right report.
 use mathlib.Core.Path.{_≡_, ap, _∙_}
-use mathlib.Core.List.{List, [], _∷_, _++_, map, append-nil}
+use mathlib.Core.List.{List, _++_, map, append-nil}
 use Prim.Native.Nat.{ℕ, _+_, _-_, _/_, _^_, _<_, _≤_}
 use native.Mathlib.Nat.{mod-eq-of-lt}
 use native.Mathlib.Omega.{arith}
@@ -8,20 +8,20 @@ use lib.ListN.{length, length-map}
 use Rattle.spans.specs.Basis.{All}
 use Rattle.cycles.specs.Compound.{Compound, cyclomatic}
 use Rattle.cycles.specs.Refusal.{Accepted}
-use Rattle.cycles.specs.Rows.{Row, Report}
+use Rattle.cycles.specs.Rows.{Row, Report, most}
 use Rattle.cycles.proofs.Ranks.{all-each}
-use Rattle.answers.specs.Answered.{familyBytes, classBytes, over, sizeOf}
+use Rattle.answers.specs.Answered.{familyBytes, classBytes, over}
 use Rattle.model.specs.Net.{netOf, preceding}
 use Rattle.model.specs.State.{State}
 use Rattle.model.specs.Run.{runAll, reportBy, report}
 use Rattle.model.proofs.Meets.{Reached, run-all-reached, reached-few, accepted-ready}
-use Rattle.paths.specs.Counts.{counted}
+use Rattle.counting.specs.Counts.{counted}
 use Rattle.ledger.specs.Ledger.{Ledger}
-use Rattle.candidates.specs.Engine.{most, Engine}
+use Rattle.candidates.specs.Engine.{Engine}
 use Rattle.engine.specs.Lengths.{runBy}
 use Rattle.engine.proofs.Laid.{length-laid, laid-all}
 use Rattle.engine.proofs.Keeps.{writtenRows, writtenClasses, rowBytes, classRowBytes, row-wide, class-wide, room-8, room-5}
-use Rattle.engine.proofs.Sizes.{writtenSizes, written-one}
+use Rattle.engine.proofs.Sizes.{writtenSizes}
 use Rattle.engine.proofs.Steps.{Holds, run-holds}
 use Rattle.engine.proofs.Rows.{Small, kept-small, ascending-few, each-rows, each-classes, marks-many}
 
@@ -112,8 +112,3 @@ module _ (c : Compound) (accepted : Accepted c) where
           table-long = ap length table-is ∙ length-laid 5 classRowBytes class-wide room-5 table (end .table);
           sizes-long = holds .wide;
         }
-
-  -- With room for one size, the engine leaves that of the row asked for, or 0 past the last row.
-  pub engine-size : (out table : List ℕ) (i : ℕ) → report c .rings ≤ most
-      → (runBy (netOf c) i (cyclomatic c) out table (0 ∷ [])) .sizes ≡ sizeOf (report c .rows) i ∷ []
-  engine-size out table i l = engine-ran out table (0 ∷ []) i .sizes l ∙ written-one i (report c .rows)

@@ -2,9 +2,9 @@
 use mathlib.Core.Path.{_≡_, refl, sym, ap, _∙_, subst}
 use mathlib.Core.Logic.{inl, inr}
 use mathlib.Core.List.{List, [], _∷_, _++_, map}
-use Prim.Native.Nat.{ℕ, zero, suc, _+_, _-_, _<_, _≤_}
+use Prim.Native.Nat.{ℕ, zero, suc, _+_, _-_, _<_}
 use native.Mathlib.Omega.{arith}
-use lib.ListN.{length, getD, take, drop, replicate, length-replicate, List·getD-append}
+use lib.ListN.{length, getD, take, drop, replicate, length-replicate, List·getD-append, List·getD-eq-default}
 use lib.Seq.{getD-append-add, getD-take, getD-drop}
 use Rattle.bondset.proofs.Laws.{lt-or-ge}
 use Rattle.cycles.specs.Compound.{Compound, cyclomatic}
@@ -12,7 +12,8 @@ use Rattle.cycles.specs.Rows.{Row}
 use Rattle.answers.specs.Answered.{over, sizeOf}
 use Rattle.model.specs.Net.{netOf}
 use Rattle.model.specs.Run.{report}
-use Rattle.compound.specs.Nets.{compound}
+use Rattle.model.proofs.NetRead.{getD-zeros}
+use Rattle.reading.specs.Reading.{compound}
 use Rattle.candidates.specs.declared.Going.{Going}
 use Rattle.candidates.specs.Engine.{Engine}
 use Rattle.engine.specs.Lengths.{runBy, Runs}
@@ -21,18 +22,7 @@ use Rattle.engine.specs.Reports.{Stands, Reports}
 use Rattle.engine.proofs.Sizes.{writtenFrom, writtenSizes}
 use Rattle.engine.proofs.Ran.{Ran, engine-ran}
 
--- Past the end of a list there is nothing.
-pub getD-past : (xs : List ℕ) (j : ℕ) → length xs ≤ j → getD xs j 0 ≡ 0
-getD-past [] j h = refl
-getD-past (x ∷ xs) zero h = absurd (omega arith)
-getD-past (x ∷ xs) (suc j) h = getD-past xs j (omega arith)
-
 -- ---- sizes over zeros
-
-getD-zeros : (k i : ℕ) → getD (replicate {A = ℕ} k 0) i 0 ≡ 0
-getD-zeros zero i = refl
-getD-zeros (suc k) zero = refl
-getD-zeros (suc k) (suc i) = getD-zeros k i
 
 getD-over-zeros : (xs : List ℕ) (k j : ℕ) → getD (over xs (replicate k 0)) j 0 ≡ getD xs j 0
 unfolding over
@@ -44,7 +34,7 @@ getD-over-zeros xs k j = elim (lt-or-ge j (length xs)) [
       ∙ getD-append-add xs (drop (length xs) (replicate k 0)) (j - length xs) 0
       ∙ getD-drop (length xs) (replicate k 0) (j - length xs) 0
       ∙ getD-zeros k (length xs + (j - length xs))
-      ∙ sym (getD-past xs j h)
+      ∙ sym (List·getD-eq-default xs 0 h)
 ]
 
 getD-sizes : (rows : List Row) (i : ℕ) → getD (map (λ row. row .size) rows) i 0 ≡ sizeOf rows i

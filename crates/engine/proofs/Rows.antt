@@ -17,7 +17,7 @@ use Rattle.model.specs.Fold.{each}
 use Rattle.model.proofs.Ready.{Ready}
 use Rattle.model.proofs.ItemsCandidates.{prototype-top, top-named-small}
 use Rattle.model.proofs.MeetsBounds.{kept-long}
-use Rattle.ledger.specs.Ledger.{familyBytes, classBytes}
+use Rattle.rows.specs.Rows.{familyBytes, classBytes}
 use Rattle.engine.proofs.Keeps.{rowBytes, classRowBytes}
 
 -- ---- how many rows there are

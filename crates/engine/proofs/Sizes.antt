@@ -3,7 +3,7 @@ use mathlib.Core.Path.{_≡_, refl, sym, ap, _∙_}
 use mathlib.Core.Bool.{Bool, true, false, cond, _&&_}
 use mathlib.Core.List.{List, [], _∷_, _++_, map, map-append}
 use mathlib.Core.Logic.{⊎-elim}
-use Prim.Native.Nat.{ℕ, zero, suc, _-_, _<_, _≤_}
+use Prim.Native.Nat.{ℕ, suc, _-_, _<_, _≤_}
 use native.Mathlib.Numerals.{add-one}
 use native.Mathlib.Omega.{arith}
 use borrow.Author.Tests.{lt-ltb, le-ltb, le-leb, lt-leb}
@@ -12,7 +12,7 @@ use lib.ListN.{length, getD, take, drop, set, length-append, length-drop, length
 use lib.Seq.{take-all, take-nil, drop-nil, drop-cons, drop-append-le, take-append-le, append-snoc, set-append-seam}
 use Rattle.bondset.proofs.Laws.{lt-or-ge}
 use Rattle.cycles.specs.Rows.{Row}
-use Rattle.answers.specs.Answered.{over, sizeOf}
+use Rattle.answers.specs.Answered.{over}
 use Rattle.candidates.specs.Engine.{putSize}
 use Rattle.engine.proofs.Laid.{length-over}
 
@@ -94,11 +94,3 @@ size-next from lent rows row =
     let xs : List ℕ = map (λ row. row .size) rows in
     rw (map-append (λ (row : Row). row .size) rows (row ∷ []), ← length-map rows (λ (row : Row). row .size))
     (⊎-elim (put-before from lent xs (row .size)) (put-after from lent xs (row .size)) (lt-or-ge (length xs) from))
-
--- With room for one size, that of the row asked for, or 0 past the last row.
-pub written-one : (i : ℕ) (rows : List Row) → writtenSizes i (0 ∷ []) rows ≡ sizeOf rows i ∷ []
-unfolding writtenFrom over sizeOf
-written-one zero [] = refl
-written-one (suc i) [] = refl
-written-one zero (row ∷ rows) = refl
-written-one (suc i) (row ∷ rows) = written-one i rows

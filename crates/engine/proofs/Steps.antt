@@ -12,7 +12,7 @@ use lib.ListN.{length, replicate, length-append, length-map}
 use Rattle.bondset.specs.Reduction.{reduced, used}
 use Rattle.cycles.specs.Compound.{Compound, cyclomatic}
 use Rattle.cycles.specs.Family.{Family}
-use Rattle.cycles.specs.Rows.{Row}
+use Rattle.cycles.specs.Rows.{Row, most}
 use Rattle.model.specs.Fold.{through, count}
 use Rattle.model.specs.Net.{Net, netOf, preceding}
 use Rattle.model.specs.State.{State, start, marked, unmarked, kept, judged, tried}
@@ -23,11 +23,11 @@ use Rattle.model.proofs.Related.{length-related}
 use Rattle.model.proofs.Items.{Try, judge, tries, tries-items, loop-tries}
 use Rattle.model.proofs.Trace.{Fits, length-along}
 use Rattle.model.proofs.Meets.{Reached, round-reached, run-reached}
-use Rattle.paths.specs.declared.counting.Count.{Count}
-use Rattle.paths.specs.Counts.{added, counted}
-use Rattle.paths.proofs.Added.{added-counted, counted-none, counted-not-flagged}
+use Rattle.counting.specs.declared.Count.{Count}
+use Rattle.counting.specs.Counts.{added, counted}
+use Rattle.counting.proofs.Added.{added-counted, counted-none, counted-not-flagged}
 use Rattle.ledger.specs.Ledger.{Ledger}
-use Rattle.candidates.specs.Engine.{most, Engine, putSize, keptBy, attempted}
+use Rattle.candidates.specs.Engine.{Engine, putSize, keptBy, attempted}
 use Rattle.engine.specs.Lengths.{settledBy, begun, roundBy, runBy}
 use Rattle.engine.proofs.Laid.{laid-none}
 use Rattle.engine.proofs.Keeps.{word, rowsOf, Keeps, keeps-kept, keeps-settled, rowBytes, classRowBytes, row-wide, class-wide, room-8, room-5}

@@ -14,10 +14,10 @@ use Rattle.model.specs.Net.{Net, preceding}
 use Rattle.model.specs.Layer.{layersInto}
 use Rattle.model.specs.Loops.{Running, running, seek, tops, topLoop, lengthLoop, lengthRound}
 use Rattle.model.proofs.NetRead.{getD-zeros}
-use Rattle.compound.specs.Nets.{neighbours}
-use Rattle.compound.proofs.Loops.{Over, over-lowest, over-next, Upto, upto-next}
-use Rattle.compound.proofs.Same.{layersInto-same}
-use Rattle.paths.proofs.Layered.{layers-disjoint}
+use Rattle.atoms.specs.Nets.{neighbours}
+use Rattle.atoms.proofs.Loops.{Over, over-lowest, over-next, Upto, upto-next}
+use Rattle.search.proofs.Same.{layersInto-same}
+use Rattle.counting.proofs.Layered.{layers-disjoint}
 use Rattle.ledger.specs.declared.Tally.{Tally}
 use Rattle.ledger.specs.Ledger.{Ledger}
 use Rattle.ledger.specs.Held.{Sized, Fit, Settles}

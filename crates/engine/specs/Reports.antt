@@ -4,11 +4,12 @@ use mathlib.Core.List.{List}
 use Prim.Native.Nat.{ℕ, _+_, _/_, _<_, _≤_}
 use lib.ListN.{length, getD, replicate}
 use Rattle.cycles.specs.Compound.{Compound, m}
+use Rattle.cycles.specs.Rows.{most}
 use Rattle.cycles.specs.Refusal.{Accepted}
-use Rattle.answers.specs.Answered.{familyBytes, classBytes, over, sizeOf, most}
+use Rattle.answers.specs.Answered.{familyBytes, classBytes, over, sizeOf}
 use Rattle.model.specs.Net.{adjOf, touchOf}
 use Rattle.model.specs.Run.{report}
-use Rattle.paths.specs.Counts.{counted}
+use Rattle.counting.specs.Counts.{counted}
 use Rattle.candidates.specs.declared.Going.{Going}
 
 -- The compound is accepted, and these are the neighbours and the bonds of each atom.

@@ -9,8 +9,8 @@ ghost use Rattle.ledger.specs.Held.{Sized, Fit};
 ghost use Rattle.engine.specs.Lengths.{roundBy, Rounds, Runs};
 ghost use Rattle.candidates.specs.Going.{graph};
 use candidates::Going;
+use counting::Count;
 use ledger::Tally;
-use paths::counting::Count;
 
 /// All candidates of length `k`, one top atom after the other, the layers under it first; then the classes of the length.
 /// Nothing once `full` rings are marked.
@@ -55,8 +55,8 @@ fn round(
     let mut rest = tops;
     let mut going = s;
     while rest != 0 {
-        let r = compound::lowest(rest);
-        compound::search::layers(adj, compound::preceding(r), r, k / 2, layers);
+        let r = atoms::lowest(rest);
+        search::layers(adj, atoms::preceding(r), r, k / 2, layers);
         let next = candidates::seek(
             n,
             adj,
@@ -76,7 +76,7 @@ fn round(
             going,
         );
         going = next;
-        rest = compound::others(rest);
+        rest = atoms::others(rest);
     }
     let first = s.tally.families;
     let rings = going.rings;

@@ -5,10 +5,11 @@
 ghost use mathlib.Core.Path.{_≡_};
 ghost use Prim.Native.Nat.{_+_, _-_, _/_, _≤_};
 ghost use lib.ListN.{length};
-ghost use Rattle.compound.specs.Nets.{compound};
+ghost use Rattle.reading.specs.Reading.{compound};
 ghost use Rattle.engine.specs.Reports.{Stands, Reports};
 use candidates::Going;
 
+/// The loops over lengths and top atoms.
 pub mod lengths;
 
 /// The cyclomatic number, of a compound in one piece.
@@ -36,6 +37,6 @@ pub fn report(
         r (now (out .exit)) (now (table .exit)) (now (sizes .exit)) ⌝ }
 {
     let full = cyclomatic(n, bonds);
-    let tops = compound::tops(n, adj);
+    let tops = atoms::tops(n, adj);
     lengths::run(n, adj, touch, tops, full, from, out, table, sizes)
 }

@@ -54,10 +54,6 @@ pub atoms-len : (p : Steps) → length (atoms p) ≡ len p
 atoms-len end = refl
 atoms-len (go k w p) = ap suc (atoms-len p)
 
-pub steps-atoms : (G : Graph) (u : ℕ) (p : Steps) (h : IsWalk G u p) → steps G u (atoms p) (atoms-chain G u p h) ≡ p
-steps-atoms G u end h = refl
-steps-atoms G u (go k w p) h = ap (go k w) (steps-atoms G w p (h .2))
-
 pub lastL-atoms : (u : ℕ) (p : Steps) → lastL u (atoms p) ≡ last u p
 lastL-atoms u end = refl
 lastL-atoms u (go k w p) = lastL-atoms w p

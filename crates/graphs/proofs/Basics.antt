@@ -5,7 +5,7 @@ use mathlib.Core.Logic.{_⊎_, inl, inr, ⊎-elim, _≢_}
 use Prim.Native.Nat.{ℕ, suc, _≤_, _<_}
 use native.Mathlib.Omega.{arith}
 use native.Mathlib.Decide.{decLt}
-use lib.Dec.{eqb, eqb→eq, eqb-refl, T}
+use borrow.Author.Tests.{eqb-true, eq-eqb}
 use Rattle.graphs.specs.Count.{xor, same}
 
 -- Truth values.
@@ -111,20 +111,13 @@ xor-part false b h e = h e
 
 -- The test of equality.
 
-T→is : (b : Bool) → T b → b ≡ true
-T→is true t = refl
-T→is false t = absurd t
-
-is→T : (b : Bool) → b ≡ true → T b
-is→T b e = rw e tt
-
 pub same-refl : (a : ℕ) → same a a ≡ true
 unfolding same
-same-refl a = T→is (eqb a a) (eqb-refl a)
+same-refl a = eq-eqb a a refl
 
 pub same-eq : (a b : ℕ) → same a b ≡ true → a ≡ b
 unfolding same
-same-eq a b h = eqb→eq a b (is→T (eqb a b) h)
+same-eq a b h = eqb-true a b h
 
 pub same-is : (a b : ℕ) → a ≡ b → same a b ≡ true
 same-is a b e = rw e (same-refl b)
@@ -153,5 +146,5 @@ xor-or x y a h =
 
 -- The order of numbers.
 
-pub lt-or-le : (a b : ℕ) → (a < b) ⊎ (b ≤ a)
-lt-or-le a b = elim (decLt a b) [ yes h ↦ inl h | no h ↦ inr (omega arith) ]
+pub lt-or-ge : (a b : ℕ) → (a < b) ⊎ (b ≤ a)
+lt-or-ge a b = elim (decLt a b) [ yes h ↦ inl h | no h ↦ inr (omega arith) ]

@@ -121,23 +121,18 @@ cnt-sum-le f g (suc n) = omega (arith, cnt-sum-le f g n, val-xor-le (f n) (g n))
     val-xor-le false true = omega arith
     val-xor-le false false = omega arith
 
-pub cnt-low : (f : ℕ → Bool) (n : ℕ) → cnt f (suc n) ≡ val (f 0) + cnt (λ k. f (suc k)) n
-unfolding cnt
-cnt-low f zero = refl
-cnt-low f (suc n) = omega (arith, cnt-low f n)
-
 -- Parity.
+
+pub val-xor-mod : (a b : Bool) → val (xor a b) ≡ (val a + val b) % 2
+val-xor-mod true true = refl
+val-xor-mod true false = refl
+val-xor-mod false true = refl
+val-xor-mod false false = refl
 
 pub par-cnt : (f : ℕ → Bool) (n : ℕ) → val (par f n) ≡ cnt f n % 2
 unfolding cnt par
 par-cnt f zero = refl
 par-cnt f (suc n) = omega (arith, par-cnt f n, val-xor-mod (f n) (par f n))
-  where
-    val-xor-mod : (a b : Bool) → val (xor a b) ≡ (val a + val b) % 2
-    val-xor-mod true true = refl
-    val-xor-mod true false = refl
-    val-xor-mod false true = refl
-    val-xor-mod false false = refl
 
 pub par-ext : (f g : ℕ → Bool) (n : ℕ) → ((k : ℕ) → k < n → f k ≡ g k) → par f n ≡ par g n
 unfolding par

@@ -9,7 +9,7 @@ use Rattle.graphs.specs.Count.{xor, cnt}
 use Rattle.graphs.specs.Graph.{Graph, BondSet, Simple, Closed, sum, Agree, PartOf}
 use Rattle.graphs.specs.Walk.{Steps, end, go, last, len, edges, IsWalk, Within}
 use Rattle.graphs.specs.Ring.{Joined, Ring, Each, sumAll, SumOf, Shorter, cset}
-use Rattle.graphs.proofs.Basics.{not-true, xor-assoc, xor-back, xor-part, lt-or-le}
+use Rattle.graphs.proofs.Basics.{not-true, xor-assoc, xor-back, xor-part, lt-or-ge}
 use Rattle.graphs.proofs.Count.{cnt-ext, cnt-mono, cnt-full, cnt-pos, cnt-minus, cnt-sum-le}
 use Rattle.graphs.proofs.Graph.{closed-sum, deg-ext, closed-ext}
 use Rattle.graphs.proofs.Walk.{closed-walks, size-le}
@@ -87,7 +87,7 @@ module _ (G : Graph) (Z : Simple G) where
       let q : cnt (sum S C) (G .m) + cnt C (G .m) ≡ cnt S (G .m) = cnt-minus S C (G .m) (F .within) in
       peel S F (decompose f (sum S C) (closed-sum G S C c (cycle-closed G (F .cycle))) (omega (arith, cycle-size G (F .cycle)))))
       (λ e. empty-sum S e)
-      (lt-or-le 0 (cnt S (G .m)))
+      (lt-or-ge 0 (cnt S (G .m)))
 
   -- A closed set is a sum of rings, each a part of it.
   pub ring-sum : (S : BondSet) → Closed G S → SumOf G (λ R. Ring G R × PartOf R S) S
@@ -95,7 +95,7 @@ module _ (G : Graph) (Z : Simple G) where
 
   shorter : (S R : BondSet) → (Ring G S → ⊥) → Ring G R → PartOf R S → cnt R (G .m) < cnt S (G .m)
   shorter S R nr r p =
-      ⊎-elim (λ e. e) (λ e. absurd (nr (ring-ext G R S (cnt-full R S (G .m) (λ k l. p k) e) r))) (lt-or-le (cnt R (G .m)) (cnt S (G .m)))
+      ⊎-elim (λ e. e) (λ e. absurd (nr (ring-ext G R S (cnt-full R S (G .m) (λ k l. p k) e) r))) (lt-or-ge (cnt R (G .m)) (cnt S (G .m)))
 
   -- A closed set that is no ring is a sum of rings shorter than it.
   pub shorter-sum : (S : BondSet) → Closed G S → (Ring G S → ⊥) → SumOf G (Shorter G (cnt S (G .m))) S

@@ -1,4 +1,4 @@
--- Rings as lists of atoms: a closed list of different atoms is a ring, and a ring is such a list from any of its atoms.
+-- Rings as lists of atoms: a closed list of different atoms is a ring, and the atoms of a cycle are such a list.
 use mathlib.Core.Path.{_≡_, sym, ap, ap₂, _∙_}
 use mathlib.Core.Bool.{Bool, true, false}
 use mathlib.Core.Logic.{⊎-elim}
@@ -7,7 +7,7 @@ use Prim.Native.Nat.{ℕ, suc, _≤_, _<_}
 use native.Mathlib.Omega.{arith}
 use lib.ListN.{length}
 use Rattle.graphs.specs.Count.{xor, same, cnt, flip}
-use Rattle.graphs.specs.Graph.{Graph, BondSet, Joins, Simple, deg, Agree}
+use Rattle.graphs.specs.Graph.{Graph, Joins, Simple, Agree}
 use Rattle.graphs.specs.Walk.{Steps, end, go, last, len, edges, heads, IsWalk, Distinct}
 use Rattle.graphs.specs.Ring.{Ring, Cycle, cset}
 use Rattle.graphs.specs.AtomList.{Bonded, Chain, lastL, Nodup, CycleList, cycleSet}
@@ -17,8 +17,7 @@ use Rattle.graphs.proofs.Graph.{joins-sym, joins-ne, joins-at, joins-ot
 use Rattle.graphs.proofs.Walk.{edge-visits}
 use Rattle.graphs.proofs.Cycle.{cycle-size, cycle-ring}
 use Rattle.graphs.proofs.Decompose.{ring-ext}
-use Rattle.graphs.proofs.Rotate.{RingFrom, ring-from}
-use Rattle.graphs.proofs.AtomList.{steps, steps-walk, steps-last, steps-len, steps-distinct, atoms, atoms-chain, atoms-len, steps-atoms, lastL-atoms}
+use Rattle.graphs.proofs.AtomList.{steps, steps-walk, steps-last, steps-len, steps-distinct, atoms, atoms-chain, atoms-len, lastL-atoms}
 use Rattle.graphs.proofs.AtomList.{nodup-atoms, bondOf-is, edgesL-is}
 
 -- From a list of atoms to a ring.
@@ -98,23 +97,3 @@ atoms-cycle G Z C =
       nodup = nodup-atoms (C .w) (C .p) (C .distinct);
       close = (C .k, C .kIn, rw (atoms-ends C) (C .joins));
     }
-
-pub atoms-cycle-set : (G : Graph) → Simple G → (C : Cycle G) → Agree G (cycleSet G (C .w) (atoms (C .p))) (cset G C)
-atoms-cycle-set G Z C k l =
-    let b : Bonded G (lastL (C .w) (atoms (C .p))) (C .w) = (C .k, C .kIn, rw (atoms-ends C) (C .joins)) in
-    sym (cycle-set-is G Z (C .w) (atoms (C .p)) (atoms-chain G (C .w) (C .p) (C .walk)) b k)
-    ∙ ap (λ (p : Steps). flip (C .k) (edges p) k) (steps-atoms G (C .w) (C .p) (C .walk))
-
--- The bonds of S as a list of atoms that starts at r.
-pub record ListOf (G : Graph) (S : BondSet) (r : ℕ) : Type 0 where
-  pub rest : List ℕ
-  pub cycle : CycleList G r rest
-  pub is : Agree G (cycleSet G r rest) S
-
-pub ring-list : (G : Graph) → Simple G → (S : BondSet) → Ring G S → (r : ℕ) → 0 < deg G S r → ListOf G S r
-ring-list G Z S R r h =
-    let F : RingFrom G S r = ring-from G Z S R r h in
-    let C : Cycle G = F .cycle in
-    let L : ListOf G S (C .w) =
-    record { rest = atoms (C .p); cycle = atoms-cycle G Z C; is = λ k l. atoms-cycle-set G Z C k l ∙ F .is k l } in
-    rw (F .start) at L

@@ -9,7 +9,7 @@ use Rattle.graphs.specs.Graph.{Graph, BondSet, Simple, sum, Agree}
 use Rattle.graphs.specs.Walk.{Steps, end, go, last, len, atom, edges, IsWalk}
 use Rattle.graphs.specs.Ring.{SumOf, Shorter, Relevant, Cycle, cset}
 use Rattle.graphs.specs.Distance.{Dist}
-use Rattle.graphs.proofs.Basics.{xor-false, xor-chain, xor-turn, lt-or-le}
+use Rattle.graphs.proofs.Basics.{xor-false, xor-chain, xor-turn, lt-or-ge}
 use Rattle.graphs.proofs.Count.{cnt-ext}
 use Rattle.graphs.proofs.Steps.{app, last-app, len-app, walk-app, edges-app, takeS, dropS, split, last-take, len-take, len-drop, walk-take, walk-drop}
 use Rattle.graphs.proofs.Steps.{last-drop, revS, walk-rev, last-rev, len-rev, edges-rev}
@@ -81,7 +81,7 @@ relevant-dist G Z S rel C A i le =
     ⊎-elim
     (λ l. record { by = arc G C i; walk = arc-walk G C i; ends = arc-last G C i; steps = omega (arith, arc-len G C i le); least = least })
     (λ l. record { by = takeS i p; walk = walk-take G (C .w) i p (C .walk); ends = last-take (C .w) i p; steps = omega (arith, len-take i p le); least = least })
-    (lt-or-le (suc (len p) - i) i)
+    (lt-or-ge (suc (len p) - i) i)
   where
     p : Steps
     p = C .p
@@ -89,4 +89,4 @@ relevant-dist G Z S rel C A i le =
     least : (q : Steps) → IsWalk G (C .w) q → last (C .w) q ≡ atom (C .w) p i → min i (suc (len p) - i) ≤ len q
     least q h e =
         ⊎-elim (λ l. absurd (rel .alone (shorter-ext G (cset G C) S A (short-cut G Z C i le q h e (omega arith) (omega arith))))) (λ l. l)
-        (lt-or-le (len q) (min i (suc (len p) - i)))
+        (lt-or-ge (len q) (min i (suc (len p) - i)))

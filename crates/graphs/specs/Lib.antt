@@ -4,4 +4,3 @@ pub mod Walk
 pub mod Ring
 pub mod Distance
 pub mod AtomList
-pub mod Number

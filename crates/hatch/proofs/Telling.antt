@@ -35,9 +35,6 @@ withSize-told (FewRows needed) size other = refl
 withSize-told (FewClassRows needed) size other = refl
 withSize-told ManyRings size other = refl
 
-pub replyOf-variant : {a v : Answer} (size : ℕ) → a ≡ v → replyOf (told v size) ≡ replyOf (told a size)
-replyOf-variant size e = ap (λ x. replyOf (told x size)) (sym e)
-
 module _ (a : Answer) (size : ℕ) {r : Reply} (made : r ≡ replyOf (told a size)) where
   pub toldBy-made : toldBy r ≡ told a size
   toldBy-made = ap toldBy made ∙ toldBy-replyOf a size

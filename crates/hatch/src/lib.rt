@@ -5,7 +5,7 @@ ghost use Prim.Native.Nat.{ℕ};
 ghost use lib.ListN.{take};
 ghost use Rattle.answers.specs.Answered.{Answered};
 ghost use Rattle.rings.specs.Calls.{told};
-ghost use Rattle.records.specs.Records.{flattened, bytesOf};
+ghost use Rattle.records.specs.Records.{flattened, lentBytes};
 ghost use Rattle.hatch.specs.Replies.{toldBy, replyOf, withSize};
 use records::Bond;
 use rings::Answer;
@@ -17,7 +17,7 @@ pub struct Reply {
     pub refusal: u64,
     /// What the refusal names: a bond (3 to 5) or the number of rows needed (7, 8); 0 otherwise.
     pub at: u64,
-    /// Bonds less atoms, and 1.
+    /// Bonds - atoms + 1.
     pub cyclomatic: u64,
     /// The number of family rows written.
     pub families: u64,
@@ -29,22 +29,6 @@ pub struct Reply {
     pub rings: u64,
     /// The size of the family asked for; 0 past the last row, and in a call that asks for none.
     pub size: u64,
-}
-
-/// The reply that refuses.
-fn refusal(number: u64, at: u64) -> Reply
-    ensures { λ r. ⌜ r ≡ record { refusal = number; at = at; cyclomatic = 0; families = 0; classes = 0; total = 0; rings = 0; size = 0 } ⌝ }
-{
-    Reply {
-        refusal: number,
-        at,
-        cyclomatic: 0,
-        families: 0,
-        classes: 0,
-        total: 0,
-        rings: 0,
-        size: 0,
-    }
 }
 
 /// An answer in fields, with the size asked for.
@@ -68,15 +52,19 @@ fn replied(a: Answer, size: u64) -> Reply
             rings,
             size,
         },
-        Answer::WrongAtoms => refusal(1, 0),
-        Answer::WrongBytes => refusal(2, 0),
-        Answer::NoAtom(bond) => refusal(3, bond),
-        Answer::Loop(bond) => refusal(4, bond),
-        Answer::Again(bond) => refusal(5, bond),
-        Answer::Pieces => refusal(6, 0),
-        Answer::FewRows(needed) => refusal(7, needed),
-        Answer::FewClassRows(needed) => refusal(8, needed),
-        Answer::ManyRings => refusal(9, 0),
+        _ => {
+            let refusal = rings::refusal_of(a);
+            Reply {
+                refusal: refusal.number,
+                at: refusal.at,
+                cyclomatic: 0,
+                families: 0,
+                classes: 0,
+                total: 0,
+                rings: 0,
+                size: 0,
+            }
+        }
     }
 }
 
@@ -122,7 +110,7 @@ fn families_copied(
     family_rows: &mut [u8],
     class_rows: &mut [u8],
 ) -> Reply
-    ensures answered { λ r. ⌜ ((i : ℕ) → (size : ℕ) × Answered n (take (bytesOf count) all) (now («family_rows» .entry)) (now («class_rows» .entry)) i
+    ensures answered { λ r. ⌜ ((i : ℕ) → (size : ℕ) × Answered n (take (lentBytes count) all) (now («family_rows» .entry)) (now («class_rows» .entry)) i
         (withSize (toldBy r) size) (now («family_rows» .exit)) (now («class_rows» .exit))) ⌝ }
     ensures plain { λ r. ⌜ r ≡ replyOf (withSize (toldBy r) 0) ⌝ }
 {
@@ -139,7 +127,7 @@ fn family_size_copied(
     class_rows: &mut [u8],
     row: usize,
 ) -> Reply
-    ensures answered { λ r. ⌜ Answered n (take (bytesOf count) all) (now («family_rows» .entry)) (now («class_rows» .entry)) row (toldBy r)
+    ensures answered { λ r. ⌜ Answered n (take (lentBytes count) all) (now («family_rows» .entry)) (now («class_rows» .entry)) row (toldBy r)
         (now («family_rows» .exit)) (now («class_rows» .exit)) ⌝ }
     ensures plain { λ r. ⌜ r ≡ replyOf (toldBy r) ⌝ }
 {

@@ -5,5 +5,6 @@ pub mod Starts
 pub mod Fields
 pub mod Reading
 pub mod RoundTrip
+pub mod Refusal
 pub mod Beginning
 pub mod Examples

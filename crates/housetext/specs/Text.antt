@@ -77,7 +77,7 @@ bondAt text =
     onFound (fieldAt bondWord dash text) Broken
     (λ a i. onFound (fieldAt [] newline (drop i text)) Broken (λ b j. Bond a b (i + j)))
 
--- what document 01 calls an answer: the numbers of atoms and bonds, or a refusal's number and its "at"
+-- what the scope document calls an answer: the numbers of atoms and bonds, or a refusal's number and its "at"
 pub data Said : Type 0 where
   passes : (atoms bonds : ℕ) → Said
   refuses : (number at : ℕ) → Said

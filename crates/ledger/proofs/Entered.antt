@@ -1,22 +1,23 @@
 -- A kept prototype is entered part by part: what becomes of the ledger, and that it stays fit.
-use mathlib.Core.Path.{_≡_, refl, ap, _∙_}
+use mathlib.Core.Path.{_≡_, ap, _∙_}
 use mathlib.Core.Bool.{true, false}
-use mathlib.Core.List.{List, [], _∷_}
-use Prim.Native.Nat.{ℕ, _+_, _-_, _*_, _/_, _%_, _^_, _≤_, _<_}
+use mathlib.Core.List.{List}
+use Prim.Native.Nat.{ℕ, _+_, _*_, _/_, _%_, _^_, _≤_, _<_}
 use native.Mathlib.Omega.{arith}
 use lib.Count.{trailingZeros, trailing-le}
 use lib.Dec.{eqb}
-use lib.ListN.{length, getD, set, length-set}
+use lib.ListN.{length, set, length-set}
 use borrow.Author.Tests.{lt-ltb, le-ltb}
-use Rattle.bondset.specs.Sets.{has}
-use Rattle.bondset.specs.Reduction.{Room, putRow, reduced, used, pushedTag, pivotOf}
+use Rattle.bondset.specs.Rows.{putRow}
+use Rattle.bondset.specs.Reduction.{Room, reduced, used, pushedTag, pivotOf}
 use Rattle.cycles.specs.Family.{Family}
-use Rattle.model.specs.Fold.{through, count}
-use Rattle.model.specs.State.{labelsIn, relabel, joined}
+use Rattle.model.specs.State.{joined}
+use Rattle.model.proofs.NumbersJoin.{joined-length}
+use Rattle.labels.proofs.Below.{labelled-set, joined-labelled}
+use Rattle.rows.specs.Rows.{putFamily}
 use Rattle.ledger.specs.declared.Tally.{Tally}
-use Rattle.ledger.specs.Ledger.{Ledger, putFamily, markedIn, summedIn, entered}
+use Rattle.ledger.specs.Ledger.{Ledger, markedIn, summedIn, entered}
 use Rattle.ledger.specs.Held.{Sized, Fit, held}
-use Rattle.ledger.proofs.Below.{cond-both, labelled-set, joined-labelled}
 
 -- ---- what becomes of the ledger
 
@@ -88,21 +89,6 @@ room-more s n h = room-fits s (n + 1) (omega arith)
 pub sized-still : {rows tags pivots rows′ tags′ pivots′ : List ℕ} → Sized rows tags pivots → length rows′ ≡ length rows → length tags′ ≡ length tags
     → length pivots′ ≡ length pivots → Sized rows′ tags′ pivots′
 sized-still s r t p = record { rowsLong = r ∙ s .rowsLong; tagsLong = t ∙ s .tagsLong; pivotsLong = p ∙ s .pivotsLong }
-
-relabel-length : (w l j : ℕ) (labels : List ℕ) → length (relabel w l j labels) ≡ length labels
-unfolding relabel
-relabel-length w l j labels =
-    cond-both (λ ls. length ls ≡ length labels) (has w (getD labels j 0)) (set labels j l) labels (length-set labels j l) refl
-
-relabelled-length : (w l : ℕ) (js labels : List ℕ) → length (through (relabel w l) js labels) ≡ length labels
-unfolding through
-relabelled-length w l [] labels = refl
-relabelled-length w l (j ∷ js) labels = relabelled-length w l js (relabel w l j labels) ∙ relabel-length w l j labels
-
-pub joined-length : (short marks t : ℕ) (labels : List ℕ) → length (joined short marks t labels) ≡ length labels
-unfolding joined
-joined-length short marks t labels =
-    relabelled-length (labelsIn labels t) (trailingZeros 128 (labelsIn labels t)) (count short (marks - short)) labels
 
 module _ (labels holds : List ℕ) (t : Tally) (fit : Fit labels holds t) (families : ℕ) where
   pub mark-fit : (k : ℕ) → t .marks < 82 → k ≤ 64

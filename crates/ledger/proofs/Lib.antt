@@ -1,6 +1,3 @@
-pub mod Turns
-pub mod Stores
-pub mod Numbering
-pub mod Below
+-- What becomes of the whole ledger.
 pub mod Entered
 pub mod Settled

@@ -5,9 +5,11 @@ use Prim.Native.Nat.{ℕ, _-_, _/_, min}
 use native.Mathlib.Nat.{le-refl}
 use lib.ListN.{length}
 use Rattle.model.specs.Fold.{through, count}
+use Rattle.rows.specs.Rows.{numberedIn, patched}
+use Rattle.rows.specs.Values.{numbersOf, Numbered}
 use Rattle.ledger.specs.declared.Tally.{Tally}
-use Rattle.ledger.specs.Ledger.{Ledger, numberedIn, patched, settledIn}
-use Rattle.ledger.specs.Held.{numbersOf, Fit, Numbered}
+use Rattle.ledger.specs.Ledger.{Ledger, settledIn}
+use Rattle.ledger.specs.Held.{Fit}
 
 pub settle-is : (k first : ℕ) (L : Ledger) (labels : List ℕ) (classes : ℕ) (table out : List ℕ)
     → numbersOf labels classes table

@@ -1,30 +1,19 @@
 //! The engine's ledger: marked rings, labels, family rows and class rows as they are entered.
 //!
 //! All lists are lent. A kept prototype is marked or joined to a class by `enter`, and `settle` numbers the classes of a length.
+//! `holds[j]` is how many families name marked ring j.
+//! How labels are joined stands in `labels`, and how rows are written in `rows`.
+//!
+//! Promises: the ledger becomes exactly what the definitions in `specs/Ledger.antt` say, and stays within its room of 82 marked rings.
 //! Rows that do not fit the lent buffers are counted and not written.
 ghost use mathlib.Core.Path.{_≡_};
 ghost use Prim.Native.Nat.{_<_};
 ghost use Rattle.bondset.specs.Sets.{value};
-ghost use Rattle.ledger.specs.Held.{Small, Sized, Fit, held, Marks, Sums, Enters, Settles};
+ghost use Rattle.rows.specs.Values.{Small};
+ghost use Rattle.ledger.specs.Held.{Sized, Fit, held, Marks, Sums, Enters, Settles};
 use bondset::BondSet;
 use bondset::reduction::Reduced;
-
-mod labels;
-mod rows;
-
-/// A family: its length, its top atom and its atoms p, q, x.
-pub struct Spot {
-    /// The length.
-    pub k: usize,
-    /// The top atom.
-    pub r: usize,
-    /// The lower of the two atoms that the chosen paths start from.
-    pub p: usize,
-    /// The higher of the two.
-    pub q: usize,
-    /// The atom between p and q, or 255 if the length is odd.
-    pub x: usize,
-}
+use rows::Spot;
 
 /// What has been counted so far.
 pub struct Tally {

@@ -2,31 +2,6 @@
 ghost use Prim.Native.Nat.{_≤_};
 use rings::Answer;
 
-// A refusal's number and what it names.
-struct Refusal(u64, u64);
-
-// The refusal of an answer, or 0 twice.
-fn refusal_of(answer: Answer) -> Refusal {
-    match answer {
-        Answer::Full {
-            cyclomatic: _,
-            families: _,
-            classes: _,
-            total: _,
-            rings: _,
-        } => Refusal(0, 0),
-        Answer::WrongAtoms => Refusal(1, 0),
-        Answer::WrongBytes => Refusal(2, 0),
-        Answer::NoAtom(bond) => Refusal(3, bond),
-        Answer::Loop(bond) => Refusal(4, bond),
-        Answer::Again(bond) => Refusal(5, bond),
-        Answer::Pieces => Refusal(6, 0),
-        Answer::FewRows(needed) => Refusal(7, needed),
-        Answer::FewClassRows(needed) => Refusal(8, needed),
-        Answer::ManyRings => Refusal(9, 0),
-    }
-}
-
 // The five numbers of a full answer.
 fn say_full(cyclomatic: u64, families: u64, classes: u64, total: u64, rings: u64) {
     cases::say(b": cyclomatic=", cyclomatic);
@@ -38,9 +13,9 @@ fn say_full(cyclomatic: u64, families: u64, classes: u64, total: u64, rings: u64
 
 // The refusal of an answer.
 fn say_refusal(answer: Answer) {
-    let refusal = refusal_of(answer);
-    cases::say(b": refused=", refusal.0);
-    cases::say(b" at=", refusal.1);
+    let refusal = rings::refusal_of(answer);
+    cases::say(b": refused=", refusal.number);
+    cases::say(b" at=", refusal.at);
 }
 
 // What was answered.

@@ -1,2 +1,3 @@
--- What the proofs of the program's functions cite.
+-- What the proofs of the program's functions cite, and that a text leaves one listing.
 pub mod Lines
+pub mod Unique

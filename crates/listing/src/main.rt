@@ -47,15 +47,10 @@ fn write_answer(
             };
             listingtext::write_listing(head, rows, sizes, class_rows, out)
         }
-        Answer::WrongAtoms => listingtext::write_refusal(1, 0, out),
-        Answer::WrongBytes => listingtext::write_refusal(2, 0, out),
-        Answer::NoAtom(bond) => listingtext::write_refusal(3, bond, out),
-        Answer::Loop(bond) => listingtext::write_refusal(4, bond, out),
-        Answer::Again(bond) => listingtext::write_refusal(5, bond, out),
-        Answer::Pieces => listingtext::write_refusal(6, 0, out),
-        Answer::FewRows(needed) => listingtext::write_refusal(7, needed, out),
-        Answer::FewClassRows(needed) => listingtext::write_refusal(8, needed, out),
-        Answer::ManyRings => listingtext::write_refusal(9, 0, out),
+        _ => {
+            let refusal = rings::refusal_of(answer);
+            listingtext::write_refusal(refusal.number, refusal.at, out)
+        }
     }
 }
 

@@ -1,4 +1,4 @@
--- The listing of document 01, computed by the definitions.
+-- The listing of the scope document, computed by the definitions.
 use mathlib.Core.Path.{_≡_, refl}
 use mathlib.Core.List.{List, [], _∷_, _++_}
 use Prim.Native.Nat.{ℕ}
@@ -10,7 +10,7 @@ abbrev together : List (List ℕ) → List ℕ
 together [] = []
 together (x ∷ xs) = x ++ together xs
 
--- document 01's listing, line by line
+-- the scope document's listing, line by line
 abbrev lines : List (List ℕ)
 lines =
     (97 ∷ 116 ∷ 111 ∷ 109 ∷ 115 ∷ 61 ∷ 56 ∷ 10 ∷ [])

@@ -6,7 +6,7 @@ use native.Mathlib.Nat.{add-zero, add-sub-cancel-left}
 use native.Mathlib.Numerals.{add-one}
 use native.Mathlib.Omega.{arith}
 use lib.ListN.{length, getD, take, drop, set, length-append}
-use lib.Seq.{sets, sets-eq, take-suc, take-all, take-append-seam}
+use lib.Seq.{sets, take-suc, take-all}
 use borrow.Author.Tests.{ne-eqb}
 use Rattle.housetext.specs.Decimal.{decimal}
 use Rattle.housetext.specs.Text.{newline, dash}
@@ -119,12 +119,3 @@ module _ {l o : List ℕ} {at end : ℕ} (rows : List ℕ) (k : ℕ) where
 
   pub classes-all : (n : ℕ) → k ≡ n → Wrote l at (classLines rows k) o end → Wrote l at (classLines rows n) o end
   classes-all n e w = wrote-as (ap (classLines rows) e) w
-
--- what was written at a buffer's start: the bytes, how many they are, and then the buffer as it was
-pub wrote-front : {lent bytes left : List ℕ} {end : ℕ} → Wrote lent 0 bytes left end → end ≤ length lent
-    → (end ≡ length bytes) × (left ≡ bytes ++ drop (length bytes) lent) × (take end left ≡ bytes)
-wrote-front {lent} {bytes} {left} {end} w h =
-    let e : end ≡ length bytes = omega (arith, w .next) in
-    let z : 0 + length bytes ≡ length bytes = omega arith in
-    let s : left ≡ bytes ++ drop (length bytes) lent = w .stored ∙ sets-eq bytes lent 0 (omega arith) ∙ ap (λ (n : ℕ). bytes ++ drop n lent) z in
-    (e, s, ap (λ (l : List ℕ). take end l) s ∙ rw e (take-append-seam bytes (drop (length bytes) lent)))

@@ -153,7 +153,7 @@ pub fn write_family(row: &[u8], size: u64, out: &mut [u8], at: usize) -> usize
 }
 
 // The number of families in a class row: a low and a high byte.
-fn families_of(row: &[u8]) -> u64
+fn family_count(row: &[u8]) -> u64
     requires { ⌜ 5 ≤ length (now row) ⌝ }
     ensures { λ r. ⌜ r ≡ getD (now (row .entry)) 2 0 + 256 * getD (now (row .entry)) 3 0 ⌝ }
     ensures { λ r. ⌜ r < 65536 ⌝ }
@@ -171,7 +171,7 @@ pub fn write_class(class: u64, row: &[u8], out: &mut [u8], at: usize) -> usize
     let a = write_word(b"class=", out, at);
     let b = write_ended(class, b',', out, a);
     let c = write_commas(&row[0..2], out, b);
-    let d = write_ended(families_of(row), b',', out, c);
+    let d = write_ended(family_count(row), b',', out, c);
     write_ended(wide(row[4]), b'\n', out, d)
 }
 

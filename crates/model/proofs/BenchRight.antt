@@ -5,7 +5,7 @@ use Prim.Native.Nat.{ℕ}
 use native.Mathlib.Omega.{arith}
 use Rattle.cycles.specs.Rows.{Right}
 use Rattle.bondset.specs.Sets.{single, members}
-use Rattle.bondset.specs.Reduction.{rowAt, putRow}
+use Rattle.bondset.specs.Rows.{rowAt, putRow}
 use Rattle.model.specs.Fold.{through, count}
 use Rattle.model.specs.Net.{near1, touch1, readAdj, readTouch, adjOf, touchOf, netOf, near}
 use Rattle.model.specs.Layer.{spread, wave}

@@ -2,33 +2,20 @@
 use mathlib.Core.Path.{_≡_, refl, sym, _∙_, ap, subst}
 use mathlib.Core.Logic.{_⊎_, inl, inr, _↔_}
 use Prim.Native.Nat.{ℕ, zero, suc, _+_, _-_, _^_, _<_, _≤_}
-use native.Mathlib.Nat.{mod-eq-of-lt}
 use native.Mathlib.Omega.{arith}
 use native.Mathlib.Decide.{ℕ-discrete}
-use lib.Bits.{bitAnd, and-mask}
 use lib.Pow.{pow-lt, ones-lt}
 use Rattle.bondset.specs.Sets.{bit, lengthTo}
-use Rattle.bondset.proofs.Laws.{lt-or-ge, pos-of-ne, bit-lt, bit-and, bit-pow-same, zero-bit, cases2, ext, lowest}
+use Rattle.bondset.proofs.Laws.{length-le, lt-or-ge, pos-of-ne, bit-lt, bit-pow-same, zero-bit, cases2, ext, lowest}
 use Rattle.cycles.specs.Compound.{Compound, Bonded, Walk, Sound, OnePiece}
 use Rattle.cycles.proofs.PathsDecide.{joins-sym}
-use Rattle.model.specs.Net.{Net, netOf, near}
+use Rattle.model.specs.Net.{Net, netOf}
 use Rattle.model.specs.Layer.{Wave, spread, wave}
 use Rattle.model.specs.Fault.{reached}
-use Rattle.model.proofs.NetBits.{pow-has, lt-of-has, zero-of-none}
-use Rattle.model.proofs.NetNear.{near-has, newOf, new-small, new-has, seen-has, seen-small}
-
--- 2 ^ n - 1 holds all below n.
-pub full-has : (n k : ℕ) → k < n → bit (2 ^ n - 1) k ≡ 1
-full-has n k h =
-    let same : bitAnd (2 ^ k) (2 ^ n - 1) ≡ 2 ^ k = and-mask (2 ^ k) n ∙ mod-eq-of-lt (pow-lt h) in
-    omega (arith, bit-and (2 ^ k) (2 ^ n - 1) k, ap (λ (x : ℕ). bit x k) same, bit-pow-same k, bit-lt (2 ^ n - 1) k)
+use Rattle.model.proofs.NetBits.{full-has, pow-has, lt-of-has, zero-of-none}
+use Rattle.model.proofs.NetNear.{net-near, near-has, newOf, Step, step}
 
 -- ---- how many are in a set
-
-length-le : (n s : ℕ) → lengthTo n s ≤ n
-unfolding lengthTo
-length-le zero s = omega arith
-length-le (suc n) s = omega (arith, length-le n s, bit-lt s n)
 
 module _ (s t : ℕ) (more : (k : ℕ) → bit s k ≡ 1 → bit t k ≡ 1) where
   bit-le : (k : ℕ) → bit s k ≤ bit t k
@@ -94,19 +81,13 @@ module _ (c : Compound) (sound : Sound c) (atoms : c .n ≤ 64) where
     abbrev seen′ : ℕ
     seen′ = w .seen + front′
 
-    added : (t : ℕ) → (bit front′ t ≡ 1) ↔ ((bit (near G (w .front)) t ≡ 1) × (bit (w .seen) t ≡ 1 → ⊥))
-    added = new-has c sound atoms (w .seen) (w .front)
-
-    seen-after : (t : ℕ) → (bit seen′ t ≡ 1) ↔ ((bit (w .seen) t ≡ 1) ⊎ (bit front′ t ≡ 1))
-    seen-after = seen-has c sound atoms (w .seen) (w .front) (searched .seen-small)
-
-    front-inside : front′ < 2 ^ c .n
-    front-inside = new-small c sound atoms (w .seen) (w .front)
+    stepped : Step G (c .n) (w .seen) (w .front)
+    stepped = step G (c .n) (net-near c sound atoms .small) (w .seen) (w .front) (searched .seen-small)
 
     walks′ : (t : ℕ) → (bit (w .seen) t ≡ 1) ⊎ (bit front′ t ≡ 1) → (steps : ℕ) × Walk c r t steps
     walks′ t (inl e) = searched .walks t e
     walks′ t (inr e) =
-        let next = near-has c sound atoms (w .front) t (searched .front-small) .0 (added t .0 e .0) in
+        let next = near-has c sound atoms (w .front) t (searched .front-small) .0 (stepped .new-has t .0 e .0) in
         let walk = searched .walks (next .0) (searched .front-seen (next .0) (next .1)) in
         (suc (walk .0), Walk.step (next .2 .0, joins-sym c (next .2 .1)) (walk .1))
 
@@ -115,42 +96,42 @@ module _ (c : Compound) (sound : Sound c) (atoms : c .n ≤ 64) where
       where
         go : Dec (bit (w .seen) b ≡ 1) → (bit (w .seen) b ≡ 1) ⊎ (bit front′ b ≡ 1)
         go (yes old) = inl old
-        go (no new) = inr (added b .1 (near-has c sound atoms (w .front) b (searched .front-small) .1 (a, e, bonded), new))
+        go (no new) = inr (stepped .new-has b .1 (near-has c sound atoms (w .front) b (searched .front-small) .1 (a, e, bonded), new))
 
     closed′ : (a b : ℕ) → (bit (w .seen) a ≡ 1) ⊎ (bit front′ a ≡ 1) → Bonded c a b → (bit seen′ b ≡ 1) ⊎ (bit front′ a ≡ 1)
     closed′ a b (inr e) bonded = inr e
     closed′ a b (inl e) bonded =
-        elim (searched .closed a b e bonded) [ inl old ↦ inl (seen-after b .1 (inl old)) | inr last ↦ inl (seen-after b .1 (from-front a b last bonded)) ]
+        elim (searched .closed a b e bonded) [ inl old ↦ inl (stepped .seen-has b .1 (inl old)) | inr last ↦ inl (stepped .seen-has b .1 (from-front a b last bonded)) ]
 
     many′ : (front′ ≡ 0) ⊎ (suc d < lengthTo (c .n) seen′)
     many′ = go (searched .many) (ℕ-discrete front′ 0)
       where
         stopped : w .front ≡ 0 → front′ ≡ 0
         stopped z =
-            zero-of-none (c .n) front′ front-inside (λ t e.
-            let next = near-has c sound atoms (w .front) t (searched .front-small) .0 (added t .0 e .0) in
+            zero-of-none (c .n) front′ (stepped .new-small) (λ t e.
+            let next = near-has c sound atoms (w .front) t (searched .front-small) .0 (stepped .new-has t .0 e .0) in
             omega (arith, next .1, ap (λ (x : ℕ). bit x (next .0)) z, zero-bit (next .0)))
 
         go : (w .front ≡ 0) ⊎ (d < lengthTo (c .n) (w .seen)) → Dec (front′ ≡ 0) → (front′ ≡ 0) ⊎ (suc d < lengthTo (c .n) seen′)
         go all (yes z) = inl z
         go (inl z) (no some) = absurd (some (stopped z))
         go (inr l) (no some) =
-            let at = lowest (c .n) front′ (pos-of-ne front′ some) front-inside in
+            let at = lowest (c .n) front′ (pos-of-ne front′ some) (stepped .new-small) in
             let e = at .here in
             let grown =
-            length-grows (w .seen) seen′ (λ k old. seen-after k .1 (inl old)) (c .n) _ (lt-of-has (c .n) front′ _ front-inside e) (added _ .0 e .1)
-            (seen-after _ .1 (inr e)) in
+            length-grows (w .seen) seen′ (λ k old. stepped .seen-has k .1 (inl old)) (c .n) _ (lt-of-has (c .n) front′ _ (stepped .new-small) e) (stepped .new-has _ .0 e .1)
+            (stepped .seen-has _ .1 (inr e)) in
             inr (omega arith)
 
     searched-more : Searched r (suc d) (spread G 0 w)
     unfolding spread
     searched-more = record {
-      seen-small = seen-small c sound atoms (w .seen) (w .front) (searched .seen-small);
-      front-small = front-inside;
-      start = seen-after r .1 (inl (searched .start));
-      front-seen = λ t e. seen-after t .1 (inr e);
-      walks = λ t e. walks′ t (seen-after t .0 e);
-      closed = λ a b e. closed′ a b (seen-after a .0 e);
+      seen-small = stepped .seen-small;
+      front-small = stepped .new-small;
+      start = stepped .seen-has r .1 (inl (searched .start));
+      front-seen = λ t e. stepped .seen-has t .1 (inr e);
+      walks = λ t e. walks′ t (stepped .seen-has t .0 e);
+      closed = λ a b e. closed′ a b (stepped .seen-has a .0 e);
       many = many′;
     }
 

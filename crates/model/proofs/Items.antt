@@ -23,7 +23,8 @@ use Rattle.model.proofs.Walks.{Given, walk-given}
 use Rattle.model.proofs.Ways.{ways-size}
 use Rattle.model.proofs.ItemsLists.{through-append, through-map, ∈-each, sorted-each, sorted-ascending}
 use Rattle.bondset.proofs.Members.{members-climb, mem-of-bit, bit-of-mem}
-use Rattle.model.proofs.ItemsFound.{depth, Of, less-top, found, found-of, found-sorted, seek-found}
+use Rattle.model.specs.Candidates.{found}
+use Rattle.model.proofs.ItemsFound.{depth, Of, less-top, found-of, found-sorted, seek-found}
 use Rattle.model.proofs.ItemsCandidates.{under, Some, under-candidate, candidate-under, prototype-top, top-named-small}
 
 -- A candidate with its prototype, or the empty set, and its size.

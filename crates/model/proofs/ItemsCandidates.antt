@@ -11,6 +11,7 @@ use Rattle.spans.specs.Elements.{_∈_, first, later}
 use Rattle.bondset.specs.Sets.{bit}
 use Rattle.cycles.specs.Compound.{Compound, Bonded}
 use Rattle.cycles.specs.Family.{Family, Precedes, Down, Under, Candidate, Prototype}
+use Rattle.cycles.proofs.PathsDown.{down-before}
 use Rattle.cycles.proofs.Families.{chosen-down}
 use Rattle.model.specs.Net.{Net, netOf, nbrs}
 use Rattle.model.specs.Layer.{layer}
@@ -19,7 +20,8 @@ use Rattle.model.proofs.Ready.{Ready, DownFrom}
 use Rattle.model.proofs.Layers.{nbrs-bonded, nbrs-small, bonded-sym, layer-down}
 use Rattle.model.proofs.NetBits.{and-has}
 use Rattle.model.proofs.ItemsSets.{above-has, two-of, top-of-two, top-small}
-use Rattle.model.proofs.ItemsFound.{depth, Odd, Even, found, odds, evens, odds-are, evens-are, odds-have, evens-have}
+use Rattle.model.specs.Candidates.{found, odds, evens}
+use Rattle.model.proofs.ItemsFound.{depth, Odd, Even, odds-are, evens-are, odds-have, evens-have}
 
 module _ (c : Compound) (rank pre : ℕ → ℕ) (ready : Ready c rank pre) where
   -- A bonded atom is an atom of the compound.
@@ -27,10 +29,6 @@ module _ (c : Compound) (rank pre : ℕ → ℕ) (ready : Ready c rank pre) wher
   bonded-small {a} {b} w = ready .sound .named (w .0) a b (w .1)
 
   -- ---- paths down
-
-  down-precedes : {r t d : ℕ} {P : List ℕ} → Down c rank r t d P → 0 < d → Precedes c rank t r
-  down-precedes Down.top h = absurd (omega arith)
-  down-precedes (Down.step less far bond rest) h = less
 
   -- So is the first atom of a path down.
   pub down-small : {r t d : ℕ} {P : List ℕ} → Down c rank r t d P → 0 < d → t < c .n
@@ -56,7 +54,7 @@ module _ (c : Compound) (rank pre : ℕ → ℕ) (ready : Ready c rank pre) wher
       record { a = b .a; mem = later (b .mem); bond = b .bond; less = b .less }
 
   under-of : {r t d : ℕ} → 0 < d → DownFrom c rank r t d → Under c rank r t d
-  under-of h w = (down-precedes (w .1) h, w)
+  under-of h w = (down-before c rank (w .1) h, w)
 
   -- ---- the candidates under one top atom
 

@@ -12,9 +12,10 @@ use Rattle.spans.specs.Elements.{_∈_, first, later}
 use Rattle.bondset.specs.Sets.{bit, members}
 use Rattle.cycles.specs.Family.{Family}
 use Rattle.cycles.specs.Rows.{key, Less}
-use Rattle.model.specs.Fold.{through, each}
+use Rattle.model.specs.Fold.{through}
 use Rattle.model.specs.Net.{Net, nbrs}
 use Rattle.model.specs.Loops.{above, fam, partners, oddLoop, tipLoop, evenLoop, seek}
+use Rattle.model.specs.Candidates.{pairs, odds, tips, evens, found}
 use Rattle.model.proofs.ItemsLists.{through-each, ∈-each, from-each, Sorted, sorted-each}
 use Rattle.bondset.proofs.Members.{members-climb, mem-of-bit, bit-of-mem}
 
@@ -31,26 +32,6 @@ pub less-top : {k a b : ℕ} {f g : Family} → a < b → Of k a f → Of k b g 
 less-top h of of = Less.later (Less.here h)
 
 module _ (G : Net) (k r : ℕ) where
-  -- All q of a set, with p.
-  unfoldable pub pairs : ℕ → ℕ → ℕ → List Family
-  pairs x p qs = each (λ q. fam k r x p q ∷ []) (members 64 qs)
-
-  -- Odd: p and q in one layer, bonded.
-  unfoldable pub odds : ℕ → List Family
-  odds u = each (λ p. pairs 255 p (bitAnd (above u p) (nbrs G p))) (members 64 u)
-
-  -- Two of a set, with x.
-  unfoldable pub tips : ℕ → ℕ → List Family
-  tips x ps = each (λ p. pairs x p (above ps p)) (members 64 ps)
-
-  -- Even: p and q in the layer before that of x, both bonded to x.
-  unfoldable pub evens : ℕ → ℕ → List Family
-  evens u below = each (λ x. tips x (bitAnd (nbrs G x) below)) (members 64 u)
-
-  -- All candidates of length k with top atom r, from the layers k / 2 and the one before.
-  unfoldable pub found : ℕ → ℕ → List Family
-  found u below = cond (eqb (k % 2) 1) (odds u) (evens u below)
-
   -- ---- which they are
 
   data Pair (x p qs : ℕ) : Family → Type 0 where
@@ -68,7 +49,7 @@ module _ (G : Net) (k r : ℕ) where
     even : {x p q : ℕ} → bit u x ≡ 1 → bit (bitAnd (nbrs G x) below) p ≡ 1 → bit (above (bitAnd (nbrs G x) below) p) q ≡ 1
         → Even u below (fam k r x p q)
 
-  pairs-are : (x p qs : ℕ) {f : Family} → f ∈ pairs x p qs → Pair x p qs f
+  pairs-are : (x p qs : ℕ) {f : Family} → f ∈ pairs G k r x p qs → Pair x p qs f
   unfolding pairs
   pairs-are x p qs m =
       let w = from-each (λ q. fam k r x p q ∷ []) (members 64 qs) m in
@@ -77,55 +58,55 @@ module _ (G : Net) (k r : ℕ) where
       go : {g : Family} (q : ℕ) → bit qs q ≡ 1 → g ∈ (fam k r x p q ∷ []) → Pair x p qs g
       go q e first = pair e
 
-  tips-are : (x ps : ℕ) {f : Family} → f ∈ tips x ps → Tip x ps f
+  tips-are : (x ps : ℕ) {f : Family} → f ∈ tips G k r x ps → Tip x ps f
   unfolding tips
   tips-are x ps m =
-      let w = from-each (λ p. pairs x p (above ps p)) (members 64 ps) m in
+      let w = from-each (λ p. pairs G k r x p (above ps p)) (members 64 ps) m in
       go (w .a) (bit-of-mem 64 ps (w .a) (w .mem)) (pairs-are x (w .a) (above ps (w .a)) (w .here))
     where
       go : {g : Family} (p : ℕ) → bit ps p ≡ 1 → Pair x p (above ps p) g → Tip x ps g
       go p e (pair h) = tip e h
 
   -- All of `odds` is found for odd lengths.
-  pub odds-are : (u : ℕ) {f : Family} → f ∈ odds u → Odd u f
+  pub odds-are : (u : ℕ) {f : Family} → f ∈ odds G k r u → Odd u f
   unfolding odds
   odds-are u m =
-      let w = from-each (λ p. pairs 255 p (bitAnd (above u p) (nbrs G p))) (members 64 u) m in
+      let w = from-each (λ p. pairs G k r 255 p (bitAnd (above u p) (nbrs G p))) (members 64 u) m in
       go (w .a) (bit-of-mem 64 u (w .a) (w .mem)) (pairs-are 255 (w .a) (bitAnd (above u (w .a)) (nbrs G (w .a))) (w .here))
     where
       go : {g : Family} (p : ℕ) → bit u p ≡ 1 → Pair 255 p (bitAnd (above u p) (nbrs G p)) g → Odd u g
       go p e (pair h) = odd e h
 
   -- All of `evens` is found for even lengths.
-  pub evens-are : (u below : ℕ) {f : Family} → f ∈ evens u below → Even u below f
+  pub evens-are : (u below : ℕ) {f : Family} → f ∈ evens G k r u below → Even u below f
   unfolding evens
   evens-are u below m =
-      let w = from-each (λ x. tips x (bitAnd (nbrs G x) below)) (members 64 u) m in
+      let w = from-each (λ x. tips G k r x (bitAnd (nbrs G x) below)) (members 64 u) m in
       go (w .a) (bit-of-mem 64 u (w .a) (w .mem)) (tips-are (w .a) (bitAnd (nbrs G (w .a)) below) (w .here))
     where
       go : {g : Family} (x : ℕ) → bit u x ≡ 1 → Tip x (bitAnd (nbrs G x) below) g → Even u below g
       go x e (tip h i) = even e h i
 
-  pairs-have : {x p q : ℕ} (qs : ℕ) → q < 64 → bit qs q ≡ 1 → fam k r x p q ∈ pairs x p qs
+  pairs-have : {x p q : ℕ} (qs : ℕ) → q < 64 → bit qs q ≡ 1 → fam k r x p q ∈ pairs G k r x p qs
   unfolding pairs
   pairs-have {x} {p} {q} qs small e = ∈-each (λ q. fam k r x p q ∷ []) (mem-of-bit 64 qs q small e) first
 
   -- All that is found for odd lengths is in `odds`.
-  pub odds-have : (u p q : ℕ) → p < 64 → q < 64 → bit u p ≡ 1 → bit (bitAnd (above u p) (nbrs G p)) q ≡ 1 → fam k r 255 p q ∈ odds u
+  pub odds-have : (u p q : ℕ) → p < 64 → q < 64 → bit u p ≡ 1 → bit (bitAnd (above u p) (nbrs G p)) q ≡ 1 → fam k r 255 p q ∈ odds G k r u
   unfolding odds
   odds-have u p q hp hq e h =
-      ∈-each (λ p. pairs 255 p (bitAnd (above u p) (nbrs G p))) (mem-of-bit 64 u p hp e) (pairs-have (bitAnd (above u p) (nbrs G p)) hq h)
+      ∈-each (λ p. pairs G k r 255 p (bitAnd (above u p) (nbrs G p))) (mem-of-bit 64 u p hp e) (pairs-have (bitAnd (above u p) (nbrs G p)) hq h)
 
-  tips-have : (x ps p q : ℕ) → p < 64 → q < 64 → bit ps p ≡ 1 → bit (above ps p) q ≡ 1 → fam k r x p q ∈ tips x ps
+  tips-have : (x ps p q : ℕ) → p < 64 → q < 64 → bit ps p ≡ 1 → bit (above ps p) q ≡ 1 → fam k r x p q ∈ tips G k r x ps
   unfolding tips
-  tips-have x ps p q hp hq e h = ∈-each (λ p. pairs x p (above ps p)) (mem-of-bit 64 ps p hp e) (pairs-have (above ps p) hq h)
+  tips-have x ps p q hp hq e h = ∈-each (λ p. pairs G k r x p (above ps p)) (mem-of-bit 64 ps p hp e) (pairs-have (above ps p) hq h)
 
   -- All that is found for even lengths is in `evens`.
   pub evens-have : (u below x p q : ℕ) → x < 64 → p < 64 → q < 64 → bit u x ≡ 1 → bit (bitAnd (nbrs G x) below) p ≡ 1
-      → bit (above (bitAnd (nbrs G x) below) p) q ≡ 1 → fam k r x p q ∈ evens u below
+      → bit (above (bitAnd (nbrs G x) below) p) q ≡ 1 → fam k r x p q ∈ evens G k r u below
   unfolding evens
   evens-have u below x p q hx hp hq e h i =
-      ∈-each (λ x. tips x (bitAnd (nbrs G x) below)) (mem-of-bit 64 u x hx e) (tips-have x (bitAnd (nbrs G x) below) p q hp hq h i)
+      ∈-each (λ x. tips G k r x (bitAnd (nbrs G x) below)) (mem-of-bit 64 u x hx e) (tips-have x (bitAnd (nbrs G x) below) p q hp hq h i)
 
   odd-of : {u : ℕ} {f : Family} → Odd u f → Of k r f
   odd-of (odd e h) = of
@@ -134,11 +115,11 @@ module _ (G : Net) (k r : ℕ) where
   even-of (even e h i) = of
 
   -- All have length k and top atom r.
-  pub found-of : (u below : ℕ) {f : Family} → f ∈ found u below → Of k r f
+  pub found-of : (u below : ℕ) {f : Family} → f ∈ found G k r u below → Of k r f
   unfolding found
   found-of u below {f} = go (eqb (k % 2) 1)
     where
-      go : (b : Bool) → f ∈ cond b (odds u) (evens u below) → Of k r f
+      go : (b : Bool) → f ∈ cond b (odds G k r u) (evens G k r u below) → Of k r f
       go true m = odd-of (odds-are u m)
       go false m = even-of (evens-are u below m)
 
@@ -153,41 +134,41 @@ module _ (G : Net) (k r : ℕ) where
   less-x : {a b s t : ℕ} {f g : Family} → a < b → Tip a s f → Tip b t g → Less (key f) (key g)
   less-x h (tip e i) (tip e′ i′) = Less.later (Less.later (Less.here h))
 
-  pairs-sorted : (x p qs : ℕ) → Sorted (pairs x p qs)
+  pairs-sorted : (x p qs : ℕ) → Sorted (pairs G k r x p qs)
   unfolding pairs
   pairs-sorted x p qs =
       sorted-each (λ q. fam k r x p q ∷ []) (λ a b f g h m n. less-q h m n) (λ q. Sorted.next (λ g. elim [ ]) Sorted.none) (members-climb 64 qs)
 
-  tips-sorted : (x ps : ℕ) → Sorted (tips x ps)
+  tips-sorted : (x ps : ℕ) → Sorted (tips G k r x ps)
   unfolding tips
   tips-sorted x ps =
-      sorted-each (λ p. pairs x p (above ps p)) (λ a b f g h m n. less-p h (pairs-are x a (above ps a) m) (pairs-are x b (above ps b) n))
+      sorted-each (λ p. pairs G k r x p (above ps p)) (λ a b f g h m n. less-p h (pairs-are x a (above ps a) m) (pairs-are x b (above ps b) n))
       (λ p. pairs-sorted x p (above ps p)) (members-climb 64 ps)
 
-  odds-sorted : (u : ℕ) → Sorted (odds u)
+  odds-sorted : (u : ℕ) → Sorted (odds G k r u)
   unfolding odds
   odds-sorted u =
-      sorted-each (λ p. pairs 255 p (qs p)) (λ a b f g h m n. less-p h (pairs-are 255 a (qs a) m) (pairs-are 255 b (qs b) n))
+      sorted-each (λ p. pairs G k r 255 p (qs p)) (λ a b f g h m n. less-p h (pairs-are 255 a (qs a) m) (pairs-are 255 b (qs b) n))
       (λ p. pairs-sorted 255 p (qs p)) (members-climb 64 u)
     where
       qs : ℕ → ℕ
       qs p = bitAnd (above u p) (nbrs G p)
 
-  evens-sorted : (u below : ℕ) → Sorted (evens u below)
+  evens-sorted : (u below : ℕ) → Sorted (evens G k r u below)
   unfolding evens
   evens-sorted u below =
-      sorted-each (λ x. tips x (ps x)) (λ a b f g h m n. less-x h (tips-are a (ps a) m) (tips-are b (ps b) n)) (λ x. tips-sorted x (ps x))
+      sorted-each (λ x. tips G k r x (ps x)) (λ a b f g h m n. less-x h (tips-are a (ps a) m) (tips-are b (ps b) n)) (λ x. tips-sorted x (ps x))
       (members-climb 64 u)
     where
       ps : ℕ → ℕ
       ps x = bitAnd (nbrs G x) below
 
   -- They are in the order of the rows.
-  pub found-sorted : (u below : ℕ) → Sorted (found u below)
+  pub found-sorted : (u below : ℕ) → Sorted (found G k r u below)
   unfolding found
   found-sorted u below = go (eqb (k % 2) 1)
     where
-      go : (b : Bool) → Sorted (cond b (odds u) (evens u below))
+      go : (b : Bool) → Sorted (cond b (odds G k r u) (evens G k r u below))
       go true = odds-sorted u
       go false = evens-sorted u below
 
@@ -195,33 +176,33 @@ module _ (G : Net) (k r : ℕ) where
 
   module _ {X : Type 0} (attempt : List ℕ → ℕ → Family → X → X) where
     module _ (us : List ℕ) (d : ℕ) where
-      pairs-tried : (x p qs : ℕ) (s : X) → partners G attempt us d k r x p qs s ≡ through (attempt us d) (pairs x p qs) s
+      pairs-tried : (x p qs : ℕ) (s : X) → partners G attempt us d k r x p qs s ≡ through (attempt us d) (pairs G k r x p qs) s
       unfolding partners pairs through
       pairs-tried x p qs s =
           through-each (attempt us d) (λ q. fam k r x p q ∷ []) (λ q s. attempt us d (fam k r x p q) s) (λ q s. refl) (members 64 qs) s
 
-      odds-tried : (u : ℕ) (s : X) → oddLoop G attempt us d k r u s ≡ through (attempt us d) (odds u) s
+      odds-tried : (u : ℕ) (s : X) → oddLoop G attempt us d k r u s ≡ through (attempt us d) (odds G k r u) s
       unfolding oddLoop odds
       odds-tried u s =
-          through-each (attempt us d) (λ p. pairs 255 p (bitAnd (above u p) (nbrs G p)))
+          through-each (attempt us d) (λ p. pairs G k r 255 p (bitAnd (above u p) (nbrs G p)))
           (λ p s. partners G attempt us d k r 255 p (bitAnd (above u p) (nbrs G p)) s)
           (λ p s. pairs-tried 255 p (bitAnd (above u p) (nbrs G p)) s) (members 64 u) s
 
-      tips-tried : (x ps : ℕ) (s : X) → tipLoop G attempt us d k r x ps s ≡ through (attempt us d) (tips x ps) s
+      tips-tried : (x ps : ℕ) (s : X) → tipLoop G attempt us d k r x ps s ≡ through (attempt us d) (tips G k r x ps) s
       unfolding tipLoop tips
       tips-tried x ps s =
-          through-each (attempt us d) (λ p. pairs x p (above ps p)) (λ p s. partners G attempt us d k r x p (above ps p) s)
+          through-each (attempt us d) (λ p. pairs G k r x p (above ps p)) (λ p s. partners G attempt us d k r x p (above ps p) s)
           (λ p s. pairs-tried x p (above ps p) s) (members 64 ps) s
 
-      evens-tried : (u below : ℕ) (s : X) → evenLoop G attempt us d k r u below s ≡ through (attempt us d) (evens u below) s
+      evens-tried : (u below : ℕ) (s : X) → evenLoop G attempt us d k r u below s ≡ through (attempt us d) (evens G k r u below) s
       unfolding evenLoop evens
       evens-tried u below s =
-          through-each (attempt us d) (λ x. tips x (bitAnd (nbrs G x) below)) (λ x s. tipLoop G attempt us d k r x (bitAnd (nbrs G x) below) s)
+          through-each (attempt us d) (λ x. tips G k r x (bitAnd (nbrs G x) below)) (λ x s. tipLoop G attempt us d k r x (bitAnd (nbrs G x) below) s)
           (λ x s. tips-tried x (bitAnd (nbrs G x) below) s) (members 64 u) s
 
     -- The loops under r try them, one after the other.
     pub seek-found : (us : List ℕ) (s : X)
-        → seek G attempt k r us s ≡ through (attempt us (depth k)) (found (getD us (k / 2) 0) (getD us (k / 2 - 1) 0)) s
+        → seek G attempt k r us s ≡ through (attempt us (depth k)) (found G k r (getD us (k / 2) 0) (getD us (k / 2 - 1) 0)) s
     unfolding seek found
     seek-found us s = go (eqb (k % 2) 1) refl
       where
@@ -232,7 +213,7 @@ module _ (G : Net) (k r : ℕ) where
         below = getD us (k / 2 - 1) 0
 
         go : (b : Bool) → eqb (k % 2) 1 ≡ b → cond b (oddLoop G attempt us (k / 2) k r u s) (evenLoop G attempt us (k / 2 - 1) k r u below s)
-            ≡ through (attempt us (depth k)) (cond b (odds u) (evens u below)) s
+            ≡ through (attempt us (depth k)) (cond b (odds G k r u) (evens G k r u below)) s
         go true e =
             let same : k / 2 ≡ depth k = omega (arith, eqb-true (k % 2) 1 e) in
             ap (λ (d : ℕ). oddLoop G attempt us d k r u s) same ∙ odds-tried us (depth k) u s

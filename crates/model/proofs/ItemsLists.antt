@@ -4,10 +4,10 @@ use mathlib.Core.List.{List, [], _∷_, _++_, map}
 use mathlib.Core.Logic.{⊎-elim}
 use Prim.Native.Nat.{ℕ, _<_}
 use Rattle.spans.specs.Elements.{_∈_, first, later}
+use Rattle.spans.proofs.Lists.{in-left, in-right, in-append}
 use Rattle.bondset.specs.Sets.{Climbs}
 use Rattle.cycles.specs.Family.{Family}
 use Rattle.cycles.specs.Rows.{key, Less, Ascending}
-use Rattle.cycles.proofs.MembersLists.{in-left, in-right, in-append}
 use Rattle.model.specs.Fold.{through, each}
 
 -- ---- loops

@@ -10,17 +10,42 @@ use lib.ListN.{length, getD, set, length-set}
 use lib.Seq.{getD-set-same, getD-set-other}
 use lib.Pow.{pow-lt}
 use Rattle.bondset.specs.Sets.{bit}
-use Rattle.bondset.specs.Reduction.{rowAt}
+use Rattle.bondset.specs.Rows.{rowAt}
 use Rattle.bondset.proofs.Laws.{lt-or-ge, bit-lt, bit-pow-same, bit-pow-other, ext}
 use Rattle.cycles.specs.Compound.{Compound, m, Joins, Bonded, Walk, Distance}
 use Rattle.cycles.specs.Family.{Down}
-use Rattle.cycles.proofs.PathsDecide.{joins-sym}
+use Rattle.cycles.proofs.PathsDecide.{joins-sym, joins-below}
 use Rattle.model.specs.Net.{Net, netOf, nbrs, near, bond}
 use Rattle.model.specs.Layer.{Wave, spread, wave, layer, layersInto}
 use Rattle.model.proofs.NetBits.{and-has, pow-has}
 use Rattle.model.proofs.NetRead.{through-count, Touched, End, touch-touched}
-use Rattle.model.proofs.NetNear.{joins-lt, net-near, nbrs-has, near-has, newOf, new-small, new-has, seen-has, seen-small}
+use Rattle.model.proofs.NetNear.{net-near, nbrs-has, near-has, newOf, Step, step}
 use Rattle.model.proofs.Ready.{Ready, DownFrom, Layered}
+
+-- ---- the layers of any net
+
+module _ (G : Net) (pre r : ℕ) where
+  -- The layers before d are written, and the list is as long as before.
+  pub record Written (size d : ℕ) (us : List ℕ) : Type 0 where
+    pub long : length us ≡ size
+    pub are : (i : ℕ) → i < d → getD us i 0 ≡ layer G pre r i
+
+  pub layers-written : (h : ℕ) (us : List ℕ) → h < length us → Written (length us) (suc h) (layersInto G pre r h us)
+  unfolding layersInto
+  layers-written h us room =
+      through-count (λ d us. set us d (layer G pre r d)) (Written (length us)) (suc h) more 0 (suc h) us (omega arith)
+      (record { long = refl; are = λ i l. absurd (omega arith) })
+    where
+      more : (d : ℕ) (vs : List ℕ) → d < suc h → Written (length us) d vs → Written (length us) (suc d) (set vs d (layer G pre r d))
+      more d vs l written = record {
+        long = length-set vs d (layer G pre r d) ∙ written .long;
+        are = λ i k. elim (lt-or-ge i d) [
+          | inl old ↦ getD-set-other vs d i _ 0 (omega arith) ∙ written .are i old
+          | inr new ↦ let e : i ≡ d = omega arith in rw e (getD-set-same vs d (layer G pre r d) 0 (omega (arith, written .long)))
+        ];
+      }
+
+-- ---- the layers of a compound
 
 module _ (c : Compound) (rank pre : ℕ → ℕ) (ready : Ready c rank pre) where
   abbrev G : Net
@@ -51,7 +76,7 @@ module _ (c : Compound) (rank pre : ℕ → ℕ) (ready : Ready c rank pre) wher
   pub bond-joins : (k a b : ℕ) → Joins c k a b → bond (netOf c) a b ≡ 2 ^ k
   unfolding bond
   bond-joins k a b joins =
-      ext (m c) (bitAnd A B) (2 ^ k) (and-lt (m c) A B (net-touched .small a) (net-touched .small b)) (pow-lt (joins-lt joins)) (λ i h. at i h (ℕ-discrete i k))
+      ext (m c) (bitAnd A B) (2 ^ k) (and-lt (m c) A B (net-touched .small a) (net-touched .small b)) (pow-lt (joins-below c joins)) (λ i h. at i h (ℕ-discrete i k))
     where
       A : ℕ
       A = rowAt (G .touch) a
@@ -69,8 +94,8 @@ module _ (c : Compound) (rank pre : ℕ → ℕ) (ready : Ready c rank pre) wher
 
       at : (i : ℕ) → i < m c → Dec (i ≡ k) → bit (bitAnd A B) i ≡ bit (2 ^ k) i
       at i h (yes e) =
-          let here = net-touched .all a k (joins-lt joins) (joins-end joins) in
-          let there = net-touched .all b k (joins-lt joins) (joins-end (joins-sym c joins)) in
+          let here = net-touched .all a k (joins-below c joins) (joins-end joins) in
+          let there = net-touched .all b k (joins-below c joins) (joins-end (joins-sym c joins)) in
           rw e (and-has A B k .1 (here, there) ∙ sym (bit-pow-same k))
       at i h (no other) =
           let none : bit (bitAnd A B) i ≡ 1 → ⊥ = λ e. other (only i h e) in
@@ -127,14 +152,8 @@ module _ (c : Compound) (rank pre : ℕ → ℕ) (ready : Ready c rank pre) wher
     abbrev under′ : ℕ
     under′ = bitAnd (bitAnd front′ (near G (w .under))) (pre r)
 
-    added : (t : ℕ) → (bit front′ t ≡ 1) ↔ ((bit (near G (w .front)) t ≡ 1) × (bit (w .seen) t ≡ 1 → ⊥))
-    added = new-has c (ready .sound) (ready .atoms) (w .seen) (w .front)
-
-    seen-after : (t : ℕ) → (bit (w .seen + front′) t ≡ 1) ↔ ((bit (w .seen) t ≡ 1) ⊎ (bit front′ t ≡ 1))
-    seen-after = seen-has c (ready .sound) (ready .atoms) (w .seen) (w .front) (waved .seen-small)
-
-    front-inside : front′ < 2 ^ c .n
-    front-inside = new-small c (ready .sound) (ready .atoms) (w .seen) (w .front)
+    stepped : Step G (c .n) (w .seen) (w .front)
+    stepped = step G (c .n) nbrs-small (w .seen) (w .front) (waved .seen-small)
 
     far-least : (t : ℕ) → (bit (w .seen) t ≡ 1 → ⊥) → (steps : ℕ) → Walk c r t steps → suc d ≤ steps
     far-least t unseen steps walk = elim (lt-or-ge d steps) [ inl l ↦ l | inr l ↦ absurd (unseen (waved .walk-seen t steps l walk)) ]
@@ -144,7 +163,7 @@ module _ (c : Compound) (rank pre : ℕ → ℕ) (ready : Ready c rank pre) wher
       where
         to : bit front′ t ≡ 1 → Distance c t r (suc d)
         to e =
-            let both = added t .0 e in
+            let both = stepped .new-has t .0 e in
             let next = near-has c (ready .sound) (ready .atoms) (w .front) t (waved .front-small) .0 (both .0) in
             record { walk = Walk.step (bonded-sym (next .2)) (waved .front-distance (next .0) .0 (next .1) .walk); least = far-least t (both .1) }
 
@@ -153,15 +172,15 @@ module _ (c : Compound) (rank pre : ℕ → ℕ) (ready : Ready c rank pre) wher
             let next = distance-next far in
             let last = waved .front-distance (next .0) .1 (next .2) in
             let reached = near-has c (ready .sound) (ready .atoms) (w .front) t (waved .front-small) .1 (next .0, last, bonded-sym (next .1)) in
-            added t .1 (reached, λ e. let old = waved .seen-walk t e in omega (arith, far .least (old .0) (old .2), old .1))
+            stepped .new-has t .1 (reached, λ e. let old = waved .seen-walk t e in omega (arith, far .least (old .0) (old .2), old .1))
 
     seen-to : (t : ℕ) → bit (w .seen + front′) t ≡ 1 → (steps : ℕ) × (steps ≤ suc d) × Walk c r t steps
     seen-to t e =
         ⊎-elim (λ (o : bit (w .seen) t ≡ 1). let old = waved .seen-walk t o in (old .0, omega (arith, old .1), old .2))
-        (λ (n : bit front′ t ≡ 1). (suc d, omega arith, front-has t .0 n .walk)) (seen-after t .0 e)
+        (λ (n : bit front′ t ≡ 1). (suc d, omega arith, front-has t .0 n .walk)) (stepped .seen-has t .0 e)
 
     to-seen : (t steps : ℕ) → steps ≤ suc d → Walk c r t steps → bit (w .seen + front′) t ≡ 1
-    to-seen t steps l walk = seen-after t .1 (go (ℕ-discrete (bit (w .seen) t) 1))
+    to-seen t steps l walk = stepped .seen-has t .1 (go (ℕ-discrete (bit (w .seen) t) 1))
       where
         go : Dec (bit (w .seen) t ≡ 1) → (bit (w .seen) t ≡ 1) ⊎ (bit front′ t ≡ 1)
         go (yes e) = inl e
@@ -191,9 +210,9 @@ module _ (c : Compound) (rank pre : ℕ → ℕ) (ready : Ready c rank pre) wher
     waved-more : Waved r (suc d) (spread G (pre r) w)
     unfolding spread
     waved-more = record {
-      seen-small = seen-small c (ready .sound) (ready .atoms) (w .seen) (w .front) (waved .seen-small);
-      front-small = front-inside;
-      under-small = omega (arith, and-le-l (bitAnd front′ (near G (w .under))) (pre r), and-le-l front′ (near G (w .under)), front-inside);
+      seen-small = stepped .seen-small;
+      front-small = stepped .new-small;
+      under-small = omega (arith, and-le-l (bitAnd front′ (near G (w .under))) (pre r), and-le-l front′ (near G (w .under)), stepped .new-small);
       seen-walk = seen-to;
       walk-seen = to-seen;
       front-distance = front-has;
@@ -210,27 +229,5 @@ module _ (c : Compound) (rank pre : ℕ → ℕ) (ready : Ready c rank pre) wher
   unfolding layer
   layer-down r t d h = waved-all r d h .under-down t
 
-  pub layer-small : (r d : ℕ) → r < c .n → layer (netOf c) (pre r) r d < 2 ^ c .n
-  unfolding layer
-  layer-small r d h = waved-all r d h .under-small
-
-  -- The layers before d are written, and the list is as long as before.
-  record Written (r size d : ℕ) (us : List ℕ) : Type 0 where
-    long : length us ≡ size
-    are : (i : ℕ) → i < d → getD us i 0 ≡ layer (netOf c) (pre r) r i
-
   pub layers-layered : (r h : ℕ) (us : List ℕ) → h < length us → Layered c pre r h (layersInto (netOf c) (pre r) r h us)
-  unfolding layersInto
-  layers-layered r h us room =
-      let all = through-count (λ d us. set us d (layer (netOf c) (pre r) r d)) (Written r (length us)) (suc h) more 0 (suc h) us (omega arith)
-      (record { long = refl; are = λ i l. absurd (omega arith) }) in
-      record { are = λ d l. all .are d (omega arith) }
-    where
-      more : (d : ℕ) (vs : List ℕ) → d < suc h → Written r (length us) d vs → Written r (length us) (suc d) (set vs d (layer (netOf c) (pre r) r d))
-      more d vs l written = record {
-        long = length-set vs d (layer (netOf c) (pre r) r d) ∙ written .long;
-        are = λ i k. elim (lt-or-ge i d) [
-          | inl old ↦ getD-set-other vs d i _ 0 (omega arith) ∙ written .are i old
-          | inr new ↦ let e : i ≡ d = omega arith in rw e (getD-set-same vs d (layer (netOf c) (pre r) r d) 0 (omega (arith, written .long)))
-        ];
-      }
+  layers-layered r h us room = record { are = λ d l. layers-written (netOf c) (pre r) r h us room .are d (omega arith) }

@@ -2,19 +2,17 @@
 use mathlib.Core.Path.{_≡_, refl, sym, ap, _∙_, subst}
 use mathlib.Core.Logic.{_↔_, inl, inr, ⊎-elim}
 use mathlib.Core.List.{List, [], _++_, map, map-append, append-nil}
-use Prim.Native.Nat.{ℕ, zero, suc, _+_, _-_, _^_, _<_, _≤_, min}
+use Prim.Native.Nat.{ℕ, zero, suc, _+_, _-_, _^_, _<_, _≤_}
 use native.Mathlib.Decide.{decLt}
-use native.Mathlib.Nat.{mod-eq-of-lt}
 use native.Mathlib.Numerals.{add-one}
 use native.Mathlib.Omega.{arith}
 use borrow.Author.Tests.{lt-ltb, le-ltb}
-use lib.Bits.{bitAnd, and-mask}
 use lib.ListN.{length, length-append, replicate}
-use lib.Pow.{pow-lt, pow-sub-lt}
+use lib.Pow.{pow-sub-lt}
 use Rattle.spans.specs.Elements.{_∈_}
 use Rattle.spans.specs.Basis.{All}
 use Rattle.spans.specs.Graded.{total}
-use Rattle.spans.proofs.Lists.{all-map, all-append}
+use Rattle.spans.proofs.Lists.{all-map, all-append, in-left, in-right, in-append}
 use Rattle.spans.proofs.Span.{own}
 use Rattle.spans.proofs.Indep.{Indep}
 use Rattle.spans.proofs.Marking.{all-element, next-spans-short}
@@ -22,7 +20,7 @@ use Rattle.spans.proofs.Replace.{total-append}
 use Rattle.spans.proofs.Steinitz.{steinitz, spanned}
 use Rattle.bondset.specs.Sets.{bit}
 use Rattle.bondset.proofs.Group.{bondSets}
-use Rattle.bondset.proofs.Laws.{lt-or-ge, pos-of-ne, bit-lt, bit-and, bit-pow-same, bit-beyond}
+use Rattle.bondset.proofs.Laws.{lt-or-ge, pos-of-ne, bit-beyond}
 use Rattle.bondset.proofs.ReductionTheorems.{reduction-none}
 use Rattle.cycles.specs.Compound.{Compound, m, cyclomatic}
 use Rattle.cycles.specs.Ring.{len, Closed, Relevant}
@@ -32,21 +30,21 @@ use Rattle.cycles.specs.Refusal.{Accepted}
 use Rattle.cycles.proofs.Bases.{no-sum-relevant, full-no-longer, prototype-long}
 use Rattle.cycles.proofs.Dimension.{closed-basis, dimension-one-piece}
 use Rattle.cycles.proofs.Members.{relevant-in-family}
-use Rattle.cycles.proofs.MembersLists.{in-left, in-right, in-append}
 use Rattle.cycles.proofs.PathsDecide.{not-in-none}
 use Rattle.cycles.proofs.Refusals.{fine-sound}
-use Rattle.cycles.proofs.Ranks.{all-each}
+use Rattle.cycles.proofs.Ranks.{all-each, length-classRows}
 use Rattle.model.specs.Fold.{through, count}
 use Rattle.model.specs.Net.{netOf, preceding}
 use Rattle.model.specs.State.{State, start, tried}
 use Rattle.model.specs.Loops.{running, lengthLoop, lengthRound}
 use Rattle.model.specs.Run.{Run, Numbering, numbered, settled, round, runAll, reportBy, report}
+use Rattle.model.proofs.NetBits.{full-has}
 use Rattle.model.proofs.Ready.{Ready, Covered}
 use Rattle.model.proofs.Items.{Try, Items, length-pass}
 use Rattle.model.proofs.TraceBases.{closed-few}
 use Rattle.model.proofs.Trace.{Event, Steps, Before, After, length-told, steps-marks}
 use Rattle.model.proofs.Numbers.{numbering, Numbered, classes-numbered}
-use Rattle.model.proofs.MeetsRows.{ascending-part, ascending-append, marks-append, classes-append, classes-below, classRows-append, length-classRows, sizes-append}
+use Rattle.model.proofs.MeetsRows.{ascending-part, ascending-append, marks-append, classes-append, classes-below, classRows-append, sizes-append}
 use Rattle.model.proofs.MeetsBounds.{kept-long, none-spans-three}
 use Rattle.model.proofs.MeetsEvents.{rowsOf, familiesOf, rows-families, rows-marks, rows-sizes, all-rows}
 use Rattle.model.proofs.MeetsEvents.{steps-part, steps-kept, steps-families-long, steps-all, steps-sized, steps-total}
@@ -361,16 +359,10 @@ report-right c rank pre ready =
 
 preceding-bit : (r a : ℕ) → (bit (preceding r) a ≡ 1) ↔ (a < r)
 unfolding preceding
-preceding-bit r a = (λ e. ⊎-elim (λ (h : a < r). h) (λ (h : r ≤ a). absurd (beyond e h)) (lt-or-ge a r), below)
+preceding-bit r a = (λ e. ⊎-elim (λ (h : a < r). h) (λ (h : r ≤ a). absurd (beyond e h)) (lt-or-ge a r), full-has r a)
   where
     beyond : bit (2 ^ r - 1) a ≡ 1 → r ≤ a → ⊥
     beyond e h = omega (arith, bit-beyond r (2 ^ r - 1) a (pow-sub-lt r (omega arith)) h)
-
-    below : a < r → bit (2 ^ r - 1) a ≡ 1
-    below h =
-        let masked : bitAnd (2 ^ a) (2 ^ r - 1) ≡ 2 ^ a = and-mask (2 ^ a) r ∙ mod-eq-of-lt (pow-lt h) in
-        let digit : bit (2 ^ a) a ≡ min (bit (2 ^ a) a) (bit (2 ^ r - 1) a) = ap (λ (s : ℕ). bit s a) (sym masked) ∙ bit-and (2 ^ a) (2 ^ r - 1) a in
-        omega (arith, bit-pow-same a, bit-lt (2 ^ r - 1) a)
 
 -- Atoms ranked by number in an accepted compound.
 pub accepted-ready : (c : Compound) → Accepted c → Ready c (λ a. a) preceding

@@ -139,12 +139,6 @@ classRows-append rows more fs gs a b =
     classRows-split (rows ++ more) 0 (length fs) fs gs (omega arith)
     ∙ ap₂ _++_ (classRows-left rows more 0 fs (all-map (λ row h. omega arith) b)) (classRows-right rows more (length fs) gs a)
 
--- There is a class row for each first family.
-pub length-classRows : (rows : List Row) (i : ℕ) (fs : List Family) → length (classRows rows i fs) ≡ length fs
-unfolding classRows
-length-classRows rows i [] = refl
-length-classRows rows i (f ∷ fs) = omega (arith, length-classRows rows (suc i) fs)
-
 -- ---- sizes
 
 -- The sizes of rows, and those of more rows.

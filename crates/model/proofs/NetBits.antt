@@ -2,11 +2,12 @@
 use mathlib.Core.Path.{_≡_, refl, sym, ap, _∙_}
 use mathlib.Core.Logic.{_⊎_, inl, inr, ⊎-elim, _↔_}
 use Prim.Native.Nat.{ℕ, zero, suc, _+_, _-_, _/_, _%_, _^_, _<_, min, max}
+use native.Mathlib.Nat.{mod-eq-of-lt}
 use native.Mathlib.Omega.{arith}
 use native.Mathlib.Decide.{ℕ-discrete}
 use lib.Arith.{digits-mod}
-use lib.Pow.{pow-pos}
-use lib.Bits.{bitAnd, bitOr, bitXor, differ, or-step, or-shr, and-lt, and-le-l, xor-add-and, or-disjoint}
+use lib.Pow.{pow-pos, pow-lt}
+use lib.Bits.{bitAnd, bitOr, bitXor, differ, or-step, or-shr, and-lt, and-le-l, and-mask, xor-add-and, or-disjoint}
 use Rattle.bondset.specs.Sets.{bit}
 use Rattle.bondset.proofs.Laws.{lt-or-ge, cases2, bit-lt, bit-and, bit-xor, bit-pow-same, bit-pow-other, bit-beyond, zero-bit, ext}
 
@@ -90,3 +91,9 @@ without-has n s t k h = (
 pub add-or : (n s t : ℕ) → s < 2 ^ n → t < 2 ^ n → ((k : ℕ) → bit s k ≡ 1 → bit t k ≡ 1 → ⊥) → s + t ≡ bitOr s t
 add-or n s t hs ht apart =
     sym (or-disjoint s t (zero-of-none n (bitAnd s t) (and-lt n s t hs ht) (λ k e. let p = and-has s t k .0 e in apart k (p .0) (p .1))))
+
+-- 2 ^ n - 1 holds all below n.
+pub full-has : (n k : ℕ) → k < n → bit (2 ^ n - 1) k ≡ 1
+full-has n k h =
+    let same : bitAnd (2 ^ k) (2 ^ n - 1) ≡ 2 ^ k = and-mask (2 ^ k) n ∙ mod-eq-of-lt (pow-lt h) in
+    omega (arith, bit-and (2 ^ k) (2 ^ n - 1) k, ap (λ (x : ℕ). bit x k) same, bit-pow-same k, bit-lt (2 ^ n - 1) k)

@@ -1,4 +1,4 @@
--- The neighbours of a set of atoms and one step of a search, in a sound compound of at most 64 atoms.
+-- The neighbours of a set of atoms and one step of a search, in any net and in that of a sound compound of at most 64 atoms.
 use mathlib.Core.Path.{_≡_}
 use mathlib.Core.List.{List, [], _∷_}
 use mathlib.Core.Logic.{_⊎_, inl, inr, ⊎-elim, _↔_}
@@ -10,7 +10,8 @@ use Rattle.spans.specs.Elements.{_∈_}
 use Rattle.bondset.specs.Sets.{bit, members}
 use Rattle.bondset.proofs.Laws.{zero-bit}
 use Rattle.bondset.proofs.Members.{mem-of-bit, bit-of-mem}
-use Rattle.cycles.specs.Compound.{Compound, m, Joins, Bonded, Sound}
+use Rattle.cycles.specs.Compound.{Compound, m, Bonded, Sound}
+use Rattle.cycles.proofs.PathsDecide.{joins-below}
 use Rattle.model.specs.Fold.{through}
 use Rattle.model.specs.Net.{Net, netOf, nbrs, near}
 use Rattle.model.proofs.NetBits.{or-has, lt-of-has, without-has, add-or}
@@ -48,10 +49,42 @@ module _ (G : Net) where
 abbrev pub newOf : Net → ℕ → ℕ → ℕ
 newOf G seen front = near G front - bitAnd (near G front) seen
 
--- A bond that joins two atoms is one of the compound's.
-pub joins-lt : {c : Compound} {k a b : ℕ} → Joins c k a b → k < m c
-joins-lt (Joins.given h e f) = h
-joins-lt (Joins.turned h e f) = h
+-- One step of a search among n atoms: what it finds, and what is seen after it.
+pub record Step (G : Net) (n seen front : ℕ) : Type 0 where
+  -- Both are among the atoms.
+  pub new-small : newOf G seen front < 2 ^ n
+  pub seen-small : seen + newOf G seen front < 2 ^ n
+  -- The neighbours of the front that are not seen.
+  pub new-has : (t : ℕ) → (bit (newOf G seen front) t ≡ 1) ↔ ((bit (near G front) t ≡ 1) × (bit seen t ≡ 1 → ⊥))
+  -- What was seen, and they.
+  pub seen-has : (t : ℕ) → (bit (seen + newOf G seen front) t ≡ 1) ↔ ((bit seen t ≡ 1) ⊎ (bit (newOf G seen front) t ≡ 1))
+
+module _ (G : Net) (n : ℕ) (small : (a : ℕ) → nbrs G a < 2 ^ n) where
+  -- The neighbours of a set of atoms are among the atoms.
+  pub near-small : (s : ℕ) → near G s < 2 ^ n
+  unfolding near
+  near-small s = gather-small G n small (members 64 s) 0 (pow-pos n)
+
+  module _ (seen front : ℕ) (inside : seen < 2 ^ n) where
+    abbrev new : ℕ
+    new = newOf G seen front
+
+    new-small : new < 2 ^ n
+    new-small = omega (arith, near-small front)
+
+    new-has : (t : ℕ) → (bit new t ≡ 1) ↔ ((bit (near G front) t ≡ 1) × (bit seen t ≡ 1 → ⊥))
+    new-has t = without-has n (near G front) seen t (near-small front)
+
+    seen-or : seen + new ≡ bitOr seen new
+    seen-or = add-or n seen new inside new-small (λ t e f. new-has t .0 f .1 e)
+
+    pub step : Step G n seen front
+    step = record {
+      new-small = new-small;
+      seen-small = rw seen-or (or-lt n seen new inside new-small);
+      new-has = new-has;
+      seen-has = λ t. rw seen-or (or-has seen new t);
+    }
 
 module _ (c : Compound) (sound : Sound c) (atoms : c .n ≤ 64) where
   abbrev G : Net
@@ -64,7 +97,7 @@ module _ (c : Compound) (sound : Sound c) (atoms : c .n ≤ 64) where
 
   -- The neighbours of an atom.
   pub nbrs-has : (a b : ℕ) → (bit (nbrs (netOf c) a) b ≡ 1) ↔ Bonded c a b
-  nbrs-has a b = (net-near .bonded a b, λ p. net-near .all (p .0) a b (joins-lt (p .1)) (p .1))
+  nbrs-has a b = (net-near .bonded a b, λ p. net-near .all (p .0) a b (joins-below c (p .1)) (p .1))
 
   -- The neighbours of a set of atoms are the atoms bonded to one of it.
   pub near-has : (s t : ℕ) → s < 2 ^ c .n → (bit (near (netOf c) s) t ≡ 1) ↔ ((a : ℕ) × (bit s a ≡ 1) × Bonded c a t)
@@ -77,29 +110,3 @@ module _ (c : Compound) (sound : Sound c) (atoms : c .n ≤ 64) where
 
       from : (a : ℕ) → bit s a ≡ 1 → Bonded c a t → bit (through (gather G) (members 64 s) 0) t ≡ 1
       from a e b = let l = lt-of-has (c .n) s a h e in gather-takes G 0 t a (mem-of-bit 64 s a (omega arith) e) (nbrs-has a t .1 b)
-
-  -- They are atoms of the compound.
-  pub near-small : (s : ℕ) → near (netOf c) s < 2 ^ c .n
-  unfolding near
-  near-small s = gather-small G (c .n) (net-near .small) (members 64 s) 0 (pow-pos (c .n))
-
-  module _ (seen front : ℕ) where
-    -- It is among the atoms of the compound.
-    pub new-small : newOf (netOf c) seen front < 2 ^ c .n
-    new-small = omega (arith, near-small front)
-
-    -- The neighbours of the front that are not seen.
-    pub new-has : (t : ℕ) → (bit (newOf (netOf c) seen front) t ≡ 1) ↔ ((bit (near (netOf c) front) t ≡ 1) × (bit seen t ≡ 1 → ⊥))
-    new-has t = without-has (c .n) (near (netOf c) front) seen t (near-small front)
-
-    module _ (small : seen < 2 ^ c .n) where
-      seen-or : seen + newOf (netOf c) seen front ≡ bitOr seen (newOf (netOf c) seen front)
-      seen-or = add-or (c .n) seen (newOf (netOf c) seen front) small new-small (λ t e f. new-has t .0 f .1 e)
-
-      -- What is seen after the step.
-      pub seen-has : (t : ℕ) → (bit (seen + newOf (netOf c) seen front) t ≡ 1) ↔ ((bit seen t ≡ 1) ⊎ (bit (newOf (netOf c) seen front) t ≡ 1))
-      seen-has t = rw seen-or (or-has seen (newOf (netOf c) seen front) t)
-
-      -- It is among the atoms of the compound.
-      pub seen-small : seen + newOf (netOf c) seen front < 2 ^ c .n
-      seen-small = rw seen-or (or-lt (c .n) seen (newOf (netOf c) seen front) small new-small)

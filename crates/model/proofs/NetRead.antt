@@ -1,5 +1,5 @@
 -- What the neighbours and the bonds at each atom are, bond by bond as a compound is read.
-use mathlib.Core.Path.{_≡_, refl, sym, ap, ap₂, _∙_, subst}
+use mathlib.Core.Path.{_≡_, sym, ap, ap₂, _∙_, subst}
 use mathlib.Core.List.{List}
 use mathlib.Core.Logic.{_⊎_, inl, inr, ⊎-elim, _↔_}
 use Prim.Native.Nat.{ℕ, zero, suc, _+_, _*_, _/_, _%_, _^_, _≤_, _<_}
@@ -10,10 +10,11 @@ use lib.ListN.{length, getD, set, replicate, length-set, length-replicate, getD-
 use lib.Seq.{getD-set-same, getD-set-other}
 use lib.Pow.{pow-pos, pow-lt}
 use Rattle.bondset.specs.Sets.{bit}
-use Rattle.bondset.specs.Reduction.{rowAt, putRow}
-use Rattle.bondset.proofs.Laws.{lt-or-ge, bit-xor, bit-lt, bit-pow-same, bit-pow-other, zero-bit, single-below}
-use Rattle.bondset.proofs.ReductionModel.{length-putRow, row-same}
+use Rattle.bondset.specs.Rows.{rowAt, putRow}
+use Rattle.bondset.proofs.Laws.{differ-zero, lt-or-ge, bit-xor, bit-lt, bit-pow-same, bit-pow-other, zero-bit, single-below}
+use Rattle.bondset.proofs.Rows.{length-putRow, row-same}
 use Rattle.cycles.specs.Compound.{Compound, m, one, other, Joins, Bonded, Sound}
+use Rattle.cycles.proofs.Dimension.{one-lt, other-lt}
 use Rattle.model.specs.Fold.{through, count}
 use Rattle.model.specs.Net.{near1, touch1, readAdj, readTouch, adjOf, touchOf}
 use Rattle.model.proofs.NetBits.{or-has, pow-has}
@@ -36,11 +37,11 @@ getD-zeros n i =
 
 -- ---- neighbours
 
-module _ (a b : ℕ) (adj : List ℕ) (room : a < length adj) where
-  near1-length : length (near1 a b adj) ≡ length adj
-  unfolding near1
-  near1-length = length-set adj a _
+pub near1-length : (a b : ℕ) (adj : List ℕ) → length (near1 a b adj) ≡ length adj
+unfolding near1
+near1-length a b adj = length-set adj a _
 
+module _ (a b : ℕ) (adj : List ℕ) (room : a < length adj) where
   near1-same : getD (near1 a b adj) a 0 ≡ bitOr (getD adj a 0) (2 ^ b)
   unfolding near1
   near1-same = getD-set-same adj a _ 0 room
@@ -79,12 +80,6 @@ pub record Near (c : Compound) (k : ℕ) (adj : List ℕ) : Type 0 where
   pub small : (a : ℕ) → getD adj a 0 < 2 ^ c .n
 
 module _ (c : Compound) (sound : Sound c) (atoms : c .n ≤ 64) where
-  one-named : (k : ℕ) → k < m c → one c k < c .n
-  one-named k h = sound .named k (one c k) (other c k) (Joins.given h refl refl)
-
-  other-named : (k : ℕ) → k < m c → other c k < c .n
-  other-named k h = sound .named k (other c k) (one c k) (Joins.turned h refl refl)
-
   near-none : Near c 0 (zeros 64)
   near-none = record {
     size = length-replicate {A = ℕ} 64 0;
@@ -96,7 +91,7 @@ module _ (c : Compound) (sound : Sound c) (atoms : c .n ≤ 64) where
   near-more : (k : ℕ) (adj : List ℕ) → k < m c → Near c k adj → Near c (suc k) (readAdj c k adj)
   unfolding readAdj
   near-more k adj h near = record {
-    size = near1-length q p adj′ room′ ∙ near1-length p q adj room ∙ near .size;
+    size = near1-length q p adj′ ∙ near1-length p q adj ∙ near .size;
     bonded = λ a b e.
         ⊎-elim (λ (l : bit (getD adj′ a 0) b ≡ 1). ⊎-elim (λ (o : bit (getD adj a 0) b ≡ 1). near .bonded a b o)
         (λ (n : (a ≡ p) × (b ≡ q)). (k, Joins.given h (sym (n .0)) (sym (n .1)))) (near1-has p q adj room a b .0 l))
@@ -105,7 +100,7 @@ module _ (c : Compound) (sound : Sound c) (atoms : c .n ≤ 64) where
       | inl old ↦ near1-has q p adj′ room′ a b .1 (inl (near1-has p q adj room a b .1 (inl (near .all j a b old joins))))
       | inr new ↦ let e : j ≡ k = omega arith in last a b (subst (λ (i : ℕ). Joins c i a b) e joins)
     ];
-    small = near1-small q p adj′ room′ (c .n) (one-named k h) (near1-small p q adj room (c .n) (other-named k h) (near .small));
+    small = near1-small q p adj′ room′ (c .n) (one-lt c sound k h) (near1-small p q adj room (c .n) (other-lt c sound k h) (near .small));
   }
     where
       p : ℕ
@@ -118,10 +113,10 @@ module _ (c : Compound) (sound : Sound c) (atoms : c .n ≤ 64) where
       adj′ = near1 p q adj
 
       room : p < length adj
-      room = omega (arith, near .size, one-named k h)
+      room = omega (arith, near .size, one-lt c sound k h)
 
       room′ : q < length adj′
-      room′ = omega (arith, near1-length p q adj room, near .size, other-named k h)
+      room′ = omega (arith, near1-length p q adj, near .size, other-lt c sound k h)
 
       last : (a b : ℕ) → Joins c k a b → bit (getD (near1 q p adj′) a 0) b ≡ 1
       last a b (Joins.given l e f) = near1-has q p adj′ room′ a b .1 (inl (near1-has p q adj room a b .1 (inr (sym e, sym f))))
@@ -141,10 +136,6 @@ row-other rows i v j ne =
   where
     past : (k : ℕ) → (k ≡ 2 * i → ⊥) → (k ≡ 2 * i + 1 → ⊥) → getD (set (set rows (2 * i) (v % 2 ^ 64)) (2 * i + 1) (v / 2 ^ 64)) k 0 ≡ getD rows k 0
     past k l h = getD-set-other (set rows (2 * i) (v % 2 ^ 64)) (2 * i + 1) k (v / 2 ^ 64) 0 h ∙ getD-set-other rows (2 * i) k (v % 2 ^ 64) 0 l
-
-differ-zero : (x : ℕ) → differ x 0 ≡ x
-differ-zero zero = refl
-differ-zero (suc x) = refl
 
 -- A set with one more member.
 toggled : (s k j : ℕ) → (bit s k ≡ 1 → ⊥) → (bit (bitXor s (2 ^ k)) j ≡ 1) ↔ ((bit s j ≡ 1) ⊎ (j ≡ k))
@@ -219,10 +210,10 @@ module _ (c : Compound) (sound : Sound c) (atoms : c .n ≤ 64) (bonds : m c ≤
     unfolding after
     at-end a (inl e) =
         touch1-other q (touch1 p k touch) a (λ f. apart a e (sym f))
-        ∙ subst (λ (x : ℕ). rowAt (touch1 p k touch) x ≡ bitXor (rowAt touch x) (2 ^ k)) e (touch1-same p touch (one-named c sound atoms k h) (before .size))
+        ∙ subst (λ (x : ℕ). rowAt (touch1 p k touch) x ≡ bitXor (rowAt touch x) (2 ^ k)) e (touch1-same p touch (one-lt c sound k h) (before .size))
     at-end a (inr e) =
         subst (λ (x : ℕ). rowAt after x ≡ bitXor (rowAt (touch1 p k touch) x) (2 ^ k)) e
-        (touch1-same q (touch1 p k touch) (other-named c sound atoms k h) (touch1-length p touch ∙ before .size))
+        (touch1-same q (touch1 p k touch) (other-lt c sound k h) (touch1-length p touch ∙ before .size))
         ∙ ap (λ (x : ℕ). bitXor x (2 ^ k)) (touch1-other p touch a (λ f. apart a (sym f) e))
 
     elsewhere : (a : ℕ) → (End c k a → ⊥) → rowAt after a ≡ rowAt touch a

@@ -1,6 +1,6 @@
 -- Counting rows by a test, and the indices that are their own label.
 use mathlib.Core.Path.{_≡_, refl, sym, _∙_, ap, ap₂}
-use mathlib.Core.Bool.{Bool, true, false, cond, _&&_}
+use mathlib.Core.Bool.{Bool, false, cond, _&&_, and-false}
 use mathlib.Core.List.{List, [], _∷_, _++_, map}
 use mathlib.Core.Logic.{⊎-elim}
 use Prim.Native.Nat.{ℕ, zero, suc, _+_, _-_, _<_, _≤_}
@@ -39,10 +39,6 @@ howMany-add : (a b c : Row → Bool) → ((row : Row) → cond (a row) 1 0 ≡ c
 unfolding howMany
 howMany-add a b c e [] = refl
 howMany-add a b c e (row ∷ rows) = add-both _ _ _ _ _ _ (e row) (howMany-add a b c e rows)
-
-both-false : (b : Bool) → b && false ≡ false
-both-false true = refl
-both-false false = refl
 
 all-of : {P : Row → Type 0} → ((row : Row) → P row) → (rows : List Row) → All P rows
 all-of f [] = All.nil
@@ -112,7 +108,7 @@ module _ (s : ℕ) (lab : ℕ → ℕ) where
 
   pub own-shut : (l : ℕ) → (lab l ≡ l → ⊥) → own (suc l) ≡ own l
   unfolding own
-  own-shut l n = rw (ne-eqb (lab l) l n, both-false (leb s l)) (omega arith)
+  own-shut l n = rw (ne-eqb (lab l) l n, and-false (leb s l)) (omega arith)
 
   own-mono : (l d m : ℕ) → m ≡ d + l → own l ≤ own m
   unfolding own

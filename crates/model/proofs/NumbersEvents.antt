@@ -13,11 +13,11 @@ use lib.ListN.{length, getD, set, length-set, length-append}
 use lib.Seq.{getD-set-same, getD-set-other}
 use Rattle.spans.specs.Elements.{_∈_}
 use Rattle.spans.specs.Basis.{All}
+use Rattle.spans.proofs.Lists.{in-append}
 use Rattle.spans.proofs.Marking.{all-element}
 use Rattle.cycles.specs.Compound.{Compound}
 use Rattle.cycles.specs.Family.{Family}
 use Rattle.cycles.specs.Rows.{Row, ClassRow, howMany, classRow, classRows, At, Together, Classes}
-use Rattle.cycles.proofs.MembersLists.{in-append}
 use Rattle.cycles.proofs.Ranks.{at-append, at-end}
 use Rattle.model.specs.Fold.{through}
 use Rattle.model.specs.Run.{classed}

@@ -1,6 +1,6 @@
 -- The loop that numbers the classes of one length: the number of each index, and the table.
 use mathlib.Core.Path.{_≡_, refl, sym, _∙_, ap, ap₂, subst}
-use mathlib.Core.Bool.{Bool, true, false, _&&_}
+use mathlib.Core.Bool.{Bool, true, false, _&&_, and-true}
 use mathlib.Core.List.{List, [], _∷_, _++_, map, map-append, append-assoc, append-nil}
 use mathlib.Core.Logic.{_⊎_, inl, inr}
 use Prim.Native.Nat.{ℕ, zero, suc, _+_, _-_, _<_, _≤_}
@@ -24,10 +24,6 @@ use Rattle.model.proofs.NumbersCount.{own, own-low, own-same, opens, op
 map-same : {A B : Type 0} {f g : A → B} {xs : List A} → All (λ x. f x ≡ g x) xs → map f xs ≡ map g xs
 map-same All.nil = refl
 map-same (All.cons e r) = ap₂ (λ x l. x ∷ l) e (map-same r)
-
-and-true : (b : Bool) → b && true ≡ b
-and-true true = refl
-and-true false = refl
 
 -- Every label is the least index of its class, from s on.
 pub record Least (s n : ℕ) (lab : ℕ → ℕ) : Type 0 where

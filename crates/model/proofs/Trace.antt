@@ -1,8 +1,7 @@
 -- What one length does to the state, told as what happens to each kept candidate in turn.
 use mathlib.Core.Path.{_≡_, refl, sym, ap, ap₂, _∙_, subst}
-use mathlib.Core.Bool.{Bool, true, false, cond}
-use mathlib.Core.List.{List, [], _∷_, _++_, map, append-assoc, append-nil}
-use Prim.Native.Nat.{ℕ, _+_, _-_, _*_, _/_, _^_, _<_, _≤_, zero-le}
+use mathlib.Core.List.{List, [], _∷_, _++_, map, append-assoc, append-nil, cons≢nil, head-eq-of-cons-eq, tail-eq-of-cons-eq}
+use Prim.Native.Nat.{ℕ, _+_, _*_, _/_, _^_, _<_, _≤_, zero-le}
 use native.Mathlib.Decide.{ℕ-discrete}
 use native.Mathlib.Nat.{le-refl, lt-of-le-of-lt, div-mul-le-self}
 use native.Mathlib.Numerals.{add-one}
@@ -19,11 +18,12 @@ use Rattle.spans.proofs.Span.{Span, at, zero, head, add, left-of, right-of, to-
 use Rattle.spans.proofs.Indep.{Indep}
 use Rattle.spans.proofs.Short.{SpansShort, relevant-not-span, not-span-relevant}
 use Rattle.spans.proofs.Marking.{Near, level-step}
-use Rattle.bondset.specs.Sets.{has}
-use Rattle.bondset.specs.Reduction.{putRow, reduced, used, pushedTag, pivotOf, Room, combine, namedBy, Reduction}
+use Rattle.bondset.specs.Rows.{putRow}
+use Rattle.bondset.specs.Reduction.{reduced, used, pushedTag, pivotOf, Room, combine, namedBy, Reduction}
 use Rattle.bondset.proofs.Group.{bondSets}
-use Rattle.bondset.proofs.ReductionModel.{length-putRow}
-use Rattle.bondset.proofs.ReductionTags.{xor-cancel, namedBy-part}
+use Rattle.bondset.proofs.Rows.{length-putRow}
+use Rattle.bondset.proofs.Laws.{xor-cancel}
+use Rattle.bondset.proofs.ReductionTags.{namedBy-part}
 use Rattle.bondset.proofs.ReductionTheorems.{reduced-on, reduction-rest, reduction-rest-lt, reduction-indep, reduction-push, remains-short}
 use Rattle.cycles.specs.Compound.{Compound}
 use Rattle.cycles.specs.Ring.{len, Closed, Relevant}
@@ -34,10 +34,11 @@ use Rattle.cycles.proofs.Bases.{shorter-short, relevant-no-sum, no-sum-relevant
 use Rattle.cycles.proofs.Ranks.{in-map}
 use Rattle.cycles.proofs.Families.{prototype-member, member-differ-shorter}
 use Rattle.model.specs.Fold.{through, count}
-use Rattle.model.specs.State.{State, marked as pushed, unmarked, joined, labelsIn, relabel}
+use Rattle.model.specs.State.{State, marked as pushed, unmarked, joined}
 use Rattle.model.proofs.Ready.{Ready, Covered}
 use Rattle.model.proofs.Walks.{Given}
 use Rattle.model.proofs.Items.{Try, judge, Items}
+use Rattle.model.proofs.NumbersJoin.{joined-length}
 use Rattle.model.proofs.TraceBases.{closed-fits, closed-few}
 use Rattle.model.proofs.TraceJudged.{rest, names, restShort, tagLong, judged-passed, judged-unmarked, judged-marked}
 
@@ -88,37 +89,10 @@ sizesOf-cons (Event.summed t tag count) es = omega arith
 
 -- ---- lengths
 
-length-cond : (b : Bool) (xs ys : List ℕ) → length xs ≡ length ys → length (cond b xs ys) ≡ length ys
-length-cond true xs ys e = e
-length-cond false xs ys e = refl
-
-length-relabel : (w l j : ℕ) (labels : List ℕ) → length (relabel w l j labels) ≡ length labels
-unfolding relabel
-length-relabel w l j labels = length-cond (has w (getD labels j 0)) (set labels j l) labels (length-set labels j l)
-
-length-relabels : (w l : ℕ) (js labels : List ℕ) → length (through (relabel w l) js labels) ≡ length labels
-unfolding through
-length-relabels w l [] labels = refl
-length-relabels w l (j ∷ js) labels = length-relabels w l js (relabel w l j labels) ∙ length-relabel w l j labels
-
-length-joined : (short marks t : ℕ) (labels : List ℕ) → length (joined short marks t labels) ≡ length labels
-unfolding joined
-length-joined short marks t labels =
-    let w = labelsIn labels t in length-relabels w (trailingZeros 128 w) (count short (marks - short)) labels
-
 room-at : (rows tags pivots : List ℕ) (n : ℕ) → length rows ≡ 164 → length tags ≡ 164 → length pivots ≡ 82 → n < 82 → Room rows tags pivots (n + 1)
 room-at rows tags pivots n a b d l = record { rowsFit = omega arith; tagsFit = omega arith; pivotsFit = omega arith }
 
 -- ---- lists
-
-cons-head : {A : Type 0} {x y : A} {xs ys : List A} → x ∷ xs ≡ y ∷ ys → x ≡ y
-cons-head e = cc
-
-cons-tail : {A : Type 0} {x y : A} {xs ys : List A} → x ∷ xs ≡ y ∷ ys → xs ≡ ys
-cons-tail e = cc
-
-nil-not-cons : {A : Type 0} {x : A} {xs : List A} → x ∷ xs ≡ [] → ⊥
-nil-not-cons e = let z : _≡_ {A = ℕ} 0 1 = cc in omega arith
 
 span-snoc : (S M : List ℕ) (w : ℕ) {v : ℕ} → Span bondSets (S ++ M) v → Span bondSets (S ++ (M ++ (w ∷ []))) v
 span-snoc S M w s = rw append-assoc at (left-of bondSets (w ∷ []) s)
@@ -309,7 +283,7 @@ module _ (c : Compound) (rank pre : ℕ → ℕ) (ready : Ready c rank pre) wher
             rows = a .roomy .rows;
             tags = a .roomy .tags;
             pivots = a .roomy .pivots;
-            labels = length-joined (st .short) (st .marks) tag (st .labels) ∙ a .roomy .labels;
+            labels = joined-length (st .short) (st .marks) tag (st .labels) ∙ a .roomy .labels;
             holds = length-set (st .holds) _ _ ∙ a .roomy .holds;
           };
           marks = a .marks;
@@ -601,13 +575,13 @@ module _ (c : Compound) (rank pre : ℕ → ℕ) (ready : Ready c rank pre) wher
       → Marks c rank (S ++ M) rows (S ++ N)
   steps-marks rows (Steps.passed n s) f g = steps-marks rows s f g
   steps-marks [] Steps.end f g = Marks.end
-  steps-marks (row ∷ rows) Steps.end f g = absurd (nil-not-cons f)
-  steps-marks [] (Steps.marks p r n s) f g = absurd (nil-not-cons (sym f))
+  steps-marks (row ∷ rows) Steps.end f g = absurd (cons≢nil f)
+  steps-marks [] (Steps.marks p r n s) f g = absurd (cons≢nil (sym f))
   steps-marks {S} (row ∷ rows) (Steps.marks {M = M} {N = N} {t = t} p r n s) f g =
-      let after : Marks c rank ((S ++ M) ++ (t .ring ∷ [])) rows (S ++ N) = rw append-assoc (steps-marks rows s (cons-tail f) (cons-tail g)) in
-      Marks.marked (subst (λ (h : Family). Prototype c rank h (t .ring)) (sym (cons-head f)) p)
-      (λ (part, q, d). n (at bondSets d (from-part bondSets q))) (cons-head g) after
-  steps-marks [] (Steps.sums p r x s) f g = absurd (nil-not-cons (sym f))
+      let after : Marks c rank ((S ++ M) ++ (t .ring ∷ [])) rows (S ++ N) = rw append-assoc (steps-marks rows s (tail-eq-of-cons-eq f) (tail-eq-of-cons-eq g)) in
+      Marks.marked (subst (λ (h : Family). Prototype c rank h (t .ring)) (sym (head-eq-of-cons-eq f)) p)
+      (λ (part, q, d). n (at bondSets d (from-part bondSets q))) (head-eq-of-cons-eq g) after
+  steps-marks [] (Steps.sums p r x s) f g = absurd (cons≢nil (sym f))
   steps-marks (row ∷ rows) (Steps.sums {t = t} p r x s) f g =
-      Marks.unmarked (subst (λ (h : Family). Prototype c rank h (t .ring)) (sym (cons-head f)) p) (to-part bondSets (expanded-span x)) (cons-head g)
-      (steps-marks rows s (cons-tail f) (cons-tail g))
+      Marks.unmarked (subst (λ (h : Family). Prototype c rank h (t .ring)) (sym (head-eq-of-cons-eq f)) p) (to-part bondSets (expanded-span x)) (head-eq-of-cons-eq g)
+      (steps-marks rows s (tail-eq-of-cons-eq f) (tail-eq-of-cons-eq g))

@@ -20,7 +20,7 @@ use Rattle.cycles.specs.Ring.{Edges}
 use Rattle.cycles.specs.Family.{Family, Down, Chosen, Candidate, Prototype, Kept}
 use Rattle.cycles.proofs.PathsDecide.{joins-sym, apart-or-shared}
 use Rattle.cycles.proofs.PathsWays.{sums}
-use Rattle.cycles.proofs.PathsDown.{in-one, distance-unique, down-far, down-first, down-near, down-more}
+use Rattle.cycles.proofs.PathsDown.{in-one, distance-unique, down-far, down-first, down-near, down-more, edges-at}
 use Rattle.cycles.proofs.Families.{chosen-down, chosen-unique, chosen-exists}
 use Rattle.model.specs.Net.{netOf, nbrs, bond}
 use Rattle.model.specs.Layer.{layer, low, walk}
@@ -197,16 +197,13 @@ module _ (c : Compound) (rank pre : ℕ → ℕ) (ready : Ready c rank pre) wher
     ne : f .p ≡ f .q → ⊥
     edges : Edges c between (link (netOf c) f)
 
-  edges-at : {S T : ℕ} {P : List ℕ} → S ≡ T → Edges c P S → Edges c P T
-  edges-at {P} e edges = subst (Edges c P) e edges
-
   candidate-linked : {f : Family} {d : ℕ} {between : List ℕ} → Candidate c rank f d between → Linked f d between
   unfolding link
   candidate-linked (Candidate.odd {p} {q} less (k, joins) underP underQ long) = record {
     downP = underP .1;
     downQ = underQ .1;
     ne = λ e. omega arith;
-    edges = edges-at (xor-zero-r (2 ^ k) ∙ sym (bond-joins c rank pre ready k p q joins)) (Edges.more joins Edges.point refl);
+    edges = edges-at c rank (xor-zero-r (2 ^ k) ∙ sym (bond-joins c rank pre ready k p q joins)) (Edges.more joins Edges.point refl);
   }
   candidate-linked (Candidate.even {p} {q} {x} less (k, joins) (j, joins′) underX underP underQ long) =
       let named : x < c .n = ready .sound .named j x q joins′ in
@@ -217,7 +214,7 @@ module _ (c : Compound) (rank pre : ℕ → ℕ) (ready : Ready c rank pre) wher
         downP = underP .1;
         downQ = underQ .1;
         ne = λ e. omega arith;
-        edges = rw even (edges-at sum (Edges.more joins (Edges.more joins′ Edges.point refl) refl));
+        edges = rw even (edges-at c rank sum (Edges.more joins (Edges.more joins′ Edges.point refl) refl));
       }
 
   chosen-same : {r t d e : ℕ} {P Q : List ℕ} → Chosen c rank r t d P → Chosen c rank r t e Q → P ≡ Q

@@ -6,7 +6,8 @@ use lib.Count.{trailingZeros}
 use Rattle.cycles.specs.Compound.{Compound}
 use Rattle.cycles.specs.Rows.{Row, ClassRow, Report}
 use Rattle.bondset.specs.Sets.{single, members}
-use Rattle.bondset.specs.Reduction.{rowAt, putRow, reducedBy, usedBy, reduced, used, pushedTag, pivotOf}
+use Rattle.bondset.specs.Rows.{rowAt, putRow}
+use Rattle.bondset.specs.Reduction.{reducedBy, usedBy, reduced, used, pushedTag, pivotOf}
 use Rattle.model.specs.Fold.{through, each, count}
 use Rattle.model.specs.Net.{near1, touch1, readAdj, readTouch, adjOf, touchOf, netOf, near, bond, preceding}
 use Rattle.model.specs.Layer.{spread, wave, layer, layersInto, walk, ways}

@@ -3,6 +3,7 @@ pub mod Net
 pub mod Layer
 pub mod State
 pub mod Loops
+pub mod Candidates
 pub mod Run
 pub mod Fault
 pub mod Bench

@@ -16,17 +16,20 @@ use Rattle.model.specs.Layer.{layersInto}
 unfoldable pub above : ℕ → ℕ → ℕ
 above s p = s / 2 ^ (p + 1) * 2 ^ (p + 1)
 
+-- A family in the order of the loops.
 abbrev pub fam : ℕ → ℕ → ℕ → ℕ → ℕ → Family
 fam k r x p q = record { long = k; r = r; p = p; q = q; x = x }
 
--- The atoms with two or more neighbours that precede them: the candidates of every other top atom are dropped.
+-- Whether a set has two atoms or more.
 unfoldable pub two : ℕ → Bool
 two s = ltb 0 (bitAnd s (s - 1))
 
 module _ (G : Net) (pre : ℕ → ℕ) where
+  -- The set with r added if two or more neighbours of r precede it.
   unfoldable pub topStep : ℕ → ℕ → ℕ
   topStep r acc = cond (two (bitAnd (nbrs G r) (pre r))) (bitOr acc (2 ^ r)) acc
 
+  -- The atoms with two or more neighbours that precede them: the candidates of every other top atom are dropped.
   unfoldable pub tops : ℕ
   tops = through topStep (count 0 (G .n)) 0
 

@@ -5,7 +5,7 @@ use lib.Bits.{bitAnd, bitOr, bitXor}
 use lib.ListN.{getD, set, replicate}
 use Rattle.cycles.specs.Compound.{Compound, m, one, other}
 use Rattle.bondset.specs.Sets.{members, single}
-use Rattle.bondset.specs.Reduction.{rowAt, putRow}
+use Rattle.bondset.specs.Rows.{rowAt, putRow}
 use Rattle.model.specs.Fold.{through, count}
 
 -- The neighbours of each atom as a set of atoms, one word an atom; the bonds at each atom, two words an atom.

@@ -11,21 +11,25 @@ use Rattle.model.specs.Net.{Net, netOf, preceding}
 use Rattle.model.specs.State.{State, start, tried}
 use Rattle.model.specs.Loops.{Running, running, lengthRound}
 
--- The classes of the length in hand: marked ring i opens a new class if it is its own label, or joins that of its label.
+-- The labels, and the rows of the classes numbered so far.
 pub record Numbering : Type 0 where
   pub labels : List ℕ
   pub table : List ClassRow
 
+-- The essential mark of a class of so many families.
 abbrev pub essential : ℕ → ℕ
 essential families = cond (eqb families 1) 1 0
 
+-- The row of a class with one marked ring more and the families that name it.
 unfoldable pub more : ℕ → ClassRow → ClassRow
 more held row =
     record { long = row .long; rank = row .rank + 1; families = row .families + held; essential = essential (row .families + held) }
 
+-- What a place past the table reads as.
 abbrev pub blank : ClassRow
 blank = record { long = 0; rank = 0; families = 0; essential = 0 }
 
+-- The class of marked ring i of length k: a new one if the ring is its own label, else that of its label.
 unfoldable pub numbered : ℕ → List ℕ → ℕ → Numbering → Numbering
 numbered k holds i s =
     let l = getD (s .labels) i 0 in

@@ -9,7 +9,8 @@ use lib.ListN.{getD, set, replicate}
 use Rattle.cycles.specs.Family.{Family}
 use Rattle.cycles.specs.Rows.{Row, ClassRow}
 use Rattle.bondset.specs.Sets.{has, members}
-use Rattle.bondset.specs.Reduction.{putRow, reduced, used, pushedTag, pivotOf}
+use Rattle.bondset.specs.Rows.{putRow}
+use Rattle.bondset.specs.Reduction.{reduced, used, pushedTag, pivotOf}
 use Rattle.model.specs.Fold.{through, count}
 use Rattle.model.specs.Net.{Net, bond}
 use Rattle.model.specs.Layer.{walk, ways}

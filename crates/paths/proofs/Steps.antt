@@ -1,18 +1,16 @@
 -- One turn of a walk, and what of a net a bond, a link, a walk and the ways depend on.
 use mathlib.Core.Path.{_≡_, refl, ap, _∙_}
 use mathlib.Core.Bool.{Bool, true, false, cond, _&&_, not, true≢false, false≢true}
-use mathlib.Core.List.{List, [], _∷_}
-use Prim.Native.Nat.{ℕ, zero, suc, _+_, _-_, _<_, _≤_}
+use mathlib.Core.List.{List, []}
+use Prim.Native.Nat.{ℕ, zero, suc, _-_, _<_, _≤_}
 use native.Mathlib.Omega.{arith}
 use borrow.Author.Tests.{ltb-true, lt-ltb, le-ltb, eq-eqb, ne-eqb}
 use lib.Bits.{bitAnd, bitXor}
 use lib.Dec.{eqb, ltb, eqb·suc-zero}
 use lib.ListN.{getD}
-use Rattle.bondset.specs.Sets.{members}
 use Rattle.cycles.specs.Family.{Family}
-use Rattle.model.specs.Fold.{through}
 use Rattle.model.specs.Net.{Net, nbrs, bond}
-use Rattle.model.specs.Layer.{low, walk, ways}
+use Rattle.model.specs.Layer.{low, walk}
 use Rattle.model.specs.State.{link}
 use Rattle.paths.specs.Nets.{net, apart}
 
@@ -96,10 +94,6 @@ module _ (G : Net) (us : List ℕ) (i a b ring : ℕ) (more : 0 < i) (a′ b′ 
 
 -- ---- what of a net they depend on
 
-pub bond-net : (G : Net) (a b : ℕ) → bond (net [] (G .touch)) a b ≡ bond G a b
-unfolding bond
-bond-net G a b = refl
-
 pub link-net : (G : Net) (f : Family) → link (net [] (G .touch)) f ≡ link G f
 unfolding link bond
 link-net G f = refl
@@ -108,13 +102,3 @@ pub walk-net : (G : Net) (us : List ℕ) (d p q ring : ℕ) → walk (net (G .ad
 unfolding walk bond
 walk-net G us zero p q ring = refl
 walk-net G us (suc i) p q ring = rw (walk-net G us i)
-
-through-same : (f g : ℕ → ℕ) → ((t : ℕ) → f t ≡ g t) → (L : List ℕ) (acc : ℕ) → through (λ t acc. acc + f t) L acc ≡ through (λ t acc. acc + g t) L acc
-unfolding through
-through-same f g e [] acc = refl
-through-same f g e (t ∷ L) acc = ap (λ (x : ℕ). through (λ t acc. acc + f t) L (acc + x)) (e t) ∙ through-same f g e L (acc + g t)
-
-pub ways-net : (G : Net) (us : List ℕ) (e t : ℕ) → ways (net (G .adj) []) us e t ≡ ways G us e t
-unfolding ways
-ways-net G us zero t = refl
-ways-net G us (suc e) t = through-same (ways (net (G .adj) []) us e) (ways G us e) (ways-net G us e) (members 64 (bitAnd (nbrs G t) (getD us e 0))) 0

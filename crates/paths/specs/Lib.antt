@@ -1,3 +1,2 @@
 -- The definitions that the contracts of `paths` cite.
 pub mod Nets
-pub mod Counts

@@ -1,11 +1,10 @@
-//! Chosen paths through the layers of atoms under a top atom, and how many paths there are.
+//! Chosen paths through the layers of atoms under a top atom.
 //!
 //! A compound stands in lent words: the neighbours of each atom as a set of atoms (`adj`, one word an atom), the bonds at each atom as a bond
 //! set (`touch`, two words an atom), and the layers under a top atom (`layers`, one word a distance, the top first).
 //!
-//! Promises: the bonds of two chosen paths walked in step, and the numbers of paths, are exactly what the engine's plan in `model` says, for any
-//! such words. Paths that meet below the top give the empty set. The number of paths asks that no two layers share an atom, which the layers of
-//! the plan never do, and then fits a word. A running count of rings is exact up to the largest word, and is flagged as soon as there are more.
+//! Promises: the bonds of two chosen paths walked in step are exactly what the engine's plan in `model` says, for any such words. Paths that
+//! meet below the top give the empty set.
 ghost use mathlib.Core.Path.{_≡_};
 ghost use mathlib.Core.List.{[]};
 ghost use Prim.Native.Nat.{ℕ, _<_, _≤_};
@@ -19,8 +18,6 @@ ghost use Rattle.model.specs.Loops.{fam};
 ghost use Rattle.paths.specs.Nets.{net, apart};
 use bondset::BondSet;
 
-pub mod counting;
-
 /// The bond between two bonded atoms: the bonds at both.
 pub fn bond(touch: &[u64], a: usize, b: usize) -> BondSet
     requires { ⌜ a < 64 ⌝ }
@@ -28,10 +25,7 @@ pub fn bond(touch: &[u64], a: usize, b: usize) -> BondSet
     requires { ⌜ 128 ≤ length (now touch) ⌝ }
     ensures { λ r. ⌜ value r ≡ bond (net [] (now (touch .entry))) a b ⌝ }
 {
-    bondset::intersection(
-        bondset::reduction::row_at(touch, a),
-        bondset::reduction::row_at(touch, b),
-    )
+    bondset::intersection(bondset::row_at(touch, a), bondset::row_at(touch, b))
 }
 
 /// What closes the two paths of a family to a ring: the bond between `p` and `q` if `x` is 255, and else the path `p`, `x`, `q`.

@@ -21,7 +21,7 @@ use denote.Steps.{nothing}
 use denote.Triple.Clauses.{lasts}
 use denote.Triple.Spec.{tripleOf}
 use denote.Triple.Statement.{Contract}
-use Rattle.records.specs.Records.{laid, bytesOf}
+use Rattle.records.specs.Records.{laid, lentBytes}
 use Rattle.records.specs.declared.Bond.{Bond}
 use Rattle.records.proofs.Arrays.{Bytes}
 use Rattle.records.proofs.Copying.{handed-copied}
@@ -59,7 +59,7 @@ module _ {M : Type 1} (𝓤 : URA M) (H : Heap 𝓤) (A : Atoms 𝓤) (mem : Mem
         qed W (‵ (flft κ q) ∷ ‵ (ShrSlice (named 0) κ bond.the-row .own bonds (lentVal bonds ∷ [])) ∷ []) ∵ nothing ! $ move ! (2 ∷ 0 ∷ []) $ fjoin ! $ nothing ! $ move ! (2 ∷ 0 ∷ []) $ join ! $ move ! (0 ∷ 1 ∷ []) $ join ! $ frame ! $ done !
 
     abbrev len : ℕ
-    len = bytesOf (length (now bonds))
+    len = lentBytes (length (now bonds))
 
     -- These are the bytes to hand on.
     abbrev pub Handed : Val → List ℕ → Type 0

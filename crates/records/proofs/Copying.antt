@@ -8,7 +8,7 @@ use lib.Dec.{ltb}
 use lib.ListN.{length, getD, set, replicate, take, length-append, length-replicate}
 use lib.Seq.{take-suc, take-length, set-at, take-at, length-take-le}
 use borrow.Author.Tests.{lt-ltb, le-ltb, ltb-false}
-use Rattle.records.specs.Records.{flattened, laid, bytesOf, bytesWhere}
+use Rattle.records.specs.Records.{flattened, laid, lentBytes, bytesWhere}
 use Rattle.records.specs.declared.Bond.{Bond}
 use Rattle.records.proofs.Handing.{handed, handedWhere, length-flattened}
 
@@ -61,13 +61,13 @@ module _ (bonds : List Bond) (k : ℕ) (within : k < length bonds) (small : k < 
       (length-flattened (take k bonds) ∙ ap (λ (j : ℕ). 2 * j) (length-take-le k bonds (omega (arith, within))))
       ∙ ap (λ (l : List ℕ). l ++ replicate (192 - 2 * suc k) 0) (sym one-more)
 
-pub bytesOf-many : (count : ℕ) → 96 < count → bytesOf count ≡ 1
+pub lentBytes-many : (count : ℕ) → 96 < count → lentBytes count ≡ 1
 unfolding bytesWhere
-bytesOf-many count many = simp (lt-ltb 96 count many)
+lentBytes-many count many = simp (lt-ltb 96 count many)
 
-pub bytesOf-few : (count : ℕ) → count ≤ 96 → bytesOf count ≡ 2 * count
+pub lentBytes-few : (count : ℕ) → count ≤ 96 → lentBytes count ≡ 2 * count
 unfolding bytesWhere
-bytesOf-few count few = simp (le-ltb 96 count few)
+lentBytes-few count few = simp (le-ltb 96 count few)
 
 -- How many records are copied: all, or none where there are more than 96.
 ends-where : (count : ℕ) (many : Bool) → ltb 96 count ≡ many → (bytesWhere many count / 2 ≤ count) × (bytesWhere many count / 2 ≤ 96)
@@ -75,7 +75,7 @@ unfolding bytesWhere
 ends-where count true e = (omega arith, omega arith)
 ends-where count false e = (omega arith, omega (arith, ltb-false 96 count e))
 
-pub ends : (count : ℕ) → (bytesOf count / 2 ≤ count) × (bytesOf count / 2 ≤ 96)
+pub ends : (count : ℕ) → (lentBytes count / 2 ≤ count) × (lentBytes count / 2 ≤ 96)
 ends count = ends-where count (ltb 96 count) refl
 
 handed-where : (bonds : List Bond) (many : Bool) → ltb 96 (length bonds) ≡ many → take (bytesWhere many (length bonds)) (laid bonds (bytesWhere many (length bonds) / 2)) ≡ handedWhere many bonds
@@ -92,5 +92,5 @@ handed-where bonds false e =
     long = ap (λ (l : List Bond). length (flattened l)) (take-length bonds) ∙ length-flattened bonds
 
 -- What is lent of the bytes in the end is what the byte form is to be handed.
-pub handed-copied : (bonds : List Bond) → take (bytesOf (length bonds)) (laid bonds (bytesOf (length bonds) / 2)) ≡ handed bonds
+pub handed-copied : (bonds : List Bond) → take (lentBytes (length bonds)) (laid bonds (lentBytes (length bonds) / 2)) ≡ handed bonds
 handed-copied bonds = handed-where bonds (ltb 96 (length bonds)) refl

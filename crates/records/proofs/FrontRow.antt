@@ -38,7 +38,7 @@ use denote.Triple.Entry.{Vals, onEntry}
 use denote.Triple.Spec.{Meets, tripleOf}
 use denote.Triple.Statement.{Contract, Triple}
 use denote.Triple.Walked.{Stays, stay-dropped, gave-slice, walkOf, goes-dropped, goes-gave-slice, Walks, ends-at, walked, walk-meets}
-use Rattle.records.specs.Records.{flattened, bytesOf}
+use Rattle.records.specs.Records.{flattened, lentBytes}
 use Rattle.records.specs.declared.Bond.{Bond}
 use Rattle.records.proofs.Arrays.{word, slice, Bytes, bytes, bytesVal, bytes-tell, bytes-told}
 use Rattle.records.proofs.Handing.{handed}
@@ -102,7 +102,7 @@ module _ (R : RattleType) (ty : Ty) where
     asked-clauses κs a = record {
       ghost = Unit {0};
       requires = λ _. emp 𝓤;
-      ensures = λ _ r end. Ensured (a .0) (take (bytesOf (a .1 .0)) (a .1 .1 .0)) (now (a .1 .1 .1 .0)) (now (a .1 .1 .1 .1 .0)) (a .1 .1 .1 .1 .1 .0) r (now (end .1 .1 .1 .0)) (now (end .1 .1 .1 .1 .0));
+      ensures = λ _ r end. Ensured (a .0) (take (lentBytes (a .1 .0)) (a .1 .1 .0)) (now (a .1 .1 .1 .0)) (now (a .1 .1 .1 .1 .0)) (a .1 .1 .1 .1 .1 .0) r (now (end .1 .1 .1 .0)) (now (end .1 .1 .1 .1 .0));
     }
 
     module _ (H : Heap 𝓤) (A : Atoms 𝓤) (W : Given 𝓤 H A) (mem : Memory → SProp 𝓤) (run : Routine → Fun 𝓤)
@@ -138,19 +138,19 @@ module _ (R : RattleType) (ty : Ty) where
               owned ! usize (Is usize) (uint-makes 𝓤 H A W w64) n _ (refl, gn) $ fjoin ! $ move ! (1 ∷ 0 ∷ []) $ join ! $ frame ! $ done !
 
           -- What the walk has when g has returned.
-          exits : (r : R .Denot) (v : Val) (rows′ classRows′ : List ℕ) → length rows′ ≡ length (now rows) → length classRows′ ≡ length (now classRows) → take (bytesOf m) xs ≡ handed (now bonds)
+          exits : (r : R .Denot) (v : Val) (rows′ classRows′ : List ℕ) → length rows′ ≡ length (now rows) → length classRows′ ≡ length (now classRows) → take (lentBytes m) xs ≡ handed (now bonds)
               → ent 𝓤 (⋆ 𝓤 H A ((‵ (flft κ₁ q₁) ⊛ (‵ (flft κ₂ q₂) ⊛ ‵ ftrue)) ∷ (‵ (flft κ₀ q₀) ⊛ ‵ ftrue) ∷ ‵ (finally u8 (rows .name) rows′) ∷ ‵ (finally u8 (classRows .name) classRows′)
-              ∷ raw (Ensured n (take (bytesOf m) xs) (now rows) (now classRows) row r rows′ classRows′) ∷ ‵ (R .own r (v ∷ [])) ∷ [])) (Post v)
+              ∷ raw (Ensured n (take (lentBytes m) xs) (now rows) (now classRows) row r rows′ classRows′) ∷ ‵ (R .own r (v ∷ [])) ∷ [])) (Post v)
           exits r v rows′ classRows′ long long′ e =
               qed W ((‵ (flft κ₁ q₁) ⊛ (‵ (flft κ₂ q₂) ⊛ ‵ ftrue)) ∷ (‵ (flft κ₀ q₀) ⊛ ‵ ftrue) ∷ ‵ (finally u8 (rows .name) rows′) ∷ ‵ (finally u8 (classRows .name) classRows′)
-              ∷ raw (Ensured n (take (bytesOf m) xs) (now rows) (now classRows) row r rows′ classRows′) ∷ ‵ (R .own r (v ∷ [])) ∷ []) ∵
+              ∷ raw (Ensured n (take (lentBytes m) xs) (now rows) (now classRows) row r rows′ classRows′) ∷ ‵ (R .own r (v ∷ [])) ∷ []) ∵
               suffices ! _ (ends-at 𝓤 H A ended stayed clauses W (((κ₀, (κ₁, (κ₂, tt))), (q₀, (q₁, (q₂, tt))), tt, a, at), tt) v r (tt, (tt, (rows′, (classRows′, (tt, tt))))) (tt, (tt, (long, (long′, (tt, tt)))))) $
               move ! (1 ∷ []) $ split ! $ move ! (0 ∷ 2 ∷ []) $ join ! $
               -- [the tokens 0; true 1; the rows 2; the class rows 3; what g ensures 4; the result 5]
               nothing ! $ nothing ! $ fjoin ! $ move ! (4 ∷ 0 ∷ []) $ fjoin ! $ move ! (3 ∷ 0 ∷ []) $ fjoin ! $ nothing ! $ fjoin ! $ nothing ! $ fjoin ! $
               -- [the parameters 0; the tokens 1; true 2; what g ensures 3; the result 4]
               move ! (0 ∷ 4 ∷ []) $ join ! $ move ! (1 ∷ 0 ∷ []) $ join ! $ frame ! $
-              drop ! $ use1 W (raw (Ensured n (flattened (now bonds)) (now rows) (now classRows) row r rows′ classRows′)) (carried n (now bonds) (take (bytesOf m) xs) (now rows) (now classRows) row r rows′ classRows′ e) $ done !
+              drop ! $ use1 W (raw (Ensured n (flattened (now bonds)) (now rows) (now classRows) row r rows′ classRows′)) (carried n (now bonds) (take (lentBytes m) xs) (now rows) (now classRows) row r rows′ classRows′ e) $ done !
 
         module _ (𝓣 : Tables 𝓤 H) (g : Name) (known-copied : Triple 𝓤 (𝓣 .C #records·copied) (Copied 𝓤 H A mem run)) (known : Triple 𝓤 (𝓣 .C g) Asked) where
           walk : n < 2 ^ 64 → row < 2 ^ 64 → Room bond.the-row m → Room u8 (length (now rows)) → Room u8 (length (now classRows))
@@ -180,7 +180,7 @@ module _ (R : RattleType) (ty : Ty) where
               use1 W (later (some (λ (r : R .Denot). ((‵ (flft κ₁ q₁) ⊛ (‵ (flft κ₂ q₂) ⊛ ‵ ftrue)) ⊛ ‵ (R .own r (w ∷ []))) ⊛ raw (ensured 𝓤 H A asked-ended asked-clauses (κ₁, (κ₂, tt)) (n, (m, (xs, (rows, (classRows, (row, tt)))))) tt r)))) (id⊢ 𝓤 _) $
               await ! tt $ pick ! (λ r. split ! $ move ! (1 ∷ []) $
               use1 W (some (λ (zs : Unit {0} × (Unit {0} × (Unit {0} × (List ℕ × (List ℕ × (Unit {0} × Unit {0})))))). ‵ (lasts asked-ended (κ₁, (κ₂, tt)) (n, (m, (xs, (rows, (classRows, (row, tt)))))) zs)
-              ⊛ raw (Ensured n (take (bytesOf m) xs) (now rows) (now classRows) row r (zs .1 .1 .1 .0) (zs .1 .1 .1 .1 .0)))) (id⊢ 𝓤 _) $ pick ! (λ zs. split ! $
+              ⊛ raw (Ensured n (take (lentBytes m) xs) (now rows) (now classRows) row r (zs .1 .1 .1 .0) (zs .1 .1 .1 .1 .0)))) (id⊢ 𝓤 _) $ pick ! (λ zs. split ! $
               fsplit ! $ drop ! $ fsplit ! $ drop ! $ fsplit ! $ drop ! $ fsplit ! $ fsplit ! $ move ! (1 ∷ []) $ feqL ! (λ long. move ! (1 ∷ []) $ fsplit ! $ fsplit ! $ move ! (1 ∷ []) $ feqL ! (λ long′.
               move ! (4 ∷ []) $ split ! $ move ! (1 ∷ []) $ peeks ! R (Is R) (shows 𝓤 H A R) r (w ∷ []) (λ is.
               -- [the result 0; the other tokens 1; the last class rows 2; true 3; the last rows 4; what g ensures 5; the token 6; _11 7; .. the result's local 29, and after each that it dies]

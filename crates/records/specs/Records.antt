@@ -21,5 +21,5 @@ unfoldable pub bytesWhere : Bool → ℕ → ℕ
 bytesWhere true count = 1
 bytesWhere false count = 2 * count
 
-abbrev pub bytesOf : ℕ → ℕ
-bytesOf count = bytesWhere (ltb 96 count) count
+abbrev pub lentBytes : ℕ → ℕ
+lentBytes count = bytesWhere (ltb 96 count) count

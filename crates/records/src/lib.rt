@@ -7,7 +7,7 @@ ghost use Prim.Native.Nat.{ℕ, _/_, _≤_};
 ghost use lib.ListN.{length, take};
 ghost use Rattle.answers.specs.Answered.{refused, Answered};
 ghost use Rattle.rings.specs.Calls.{told};
-ghost use Rattle.records.specs.Records.{flattened, laid, bytesOf};
+ghost use Rattle.records.specs.Records.{flattened, laid, lentBytes};
 use rings::Answer;
 use rings::Sized;
 
@@ -22,7 +22,7 @@ pub struct Bond {
 
 /// How many bytes the byte form is lent for so many records: two for each, and 1, which it refuses, for more than 96.
 fn lent(count: usize) -> usize
-    ensures counted { λ r. ⌜ r ≡ bytesOf count ⌝ }
+    ensures counted { λ r. ⌜ r ≡ lentBytes count ⌝ }
     ensures few { λ r. ⌜ r ≤ 192 ⌝ }
 {
     if 96 < count { 1 } else { 2 * count }
@@ -30,7 +30,7 @@ fn lent(count: usize) -> usize
 
 /// The bytes of the records, and zeros after them; zeros alone where there are more than 96 records.
 pub fn copied(bonds: &[Bond]) -> [u8; 192]
-    ensures { λ r. ⌜ r ≡ laid (now (bonds .entry)) (bytesOf (length (now (bonds .entry))) / 2) ⌝ }
+    ensures { λ r. ⌜ r ≡ laid (now (bonds .entry)) (lentBytes (length (now (bonds .entry))) / 2) ⌝ }
 {
     let end = lent(bonds.len()) / 2;
     let mut all = [0u8; 192];
@@ -54,7 +54,7 @@ pub fn families_copied(
     family_rows: &mut [u8],
     class_rows: &mut [u8],
 ) -> Answer
-    ensures { λ r. ⌜ ((i : ℕ) → (size : ℕ) × Answered n (take (bytesOf count) all) (now («family_rows» .entry)) (now («class_rows» .entry)) i (told r size)
+    ensures { λ r. ⌜ ((i : ℕ) → (size : ℕ) × Answered n (take (lentBytes count) all) (now («family_rows» .entry)) (now («class_rows» .entry)) i (told r size)
         (now («family_rows» .exit)) (now («class_rows» .exit))) ⌝ }
 {
     let len = lent(count);
@@ -70,7 +70,7 @@ pub fn family_size_copied(
     class_rows: &mut [u8],
     row: usize,
 ) -> Sized
-    ensures answered { λ r. ⌜ Answered n (take (bytesOf count) all) (now («family_rows» .entry)) (now («class_rows» .entry)) row (told (r .answer) (r .size))
+    ensures answered { λ r. ⌜ Answered n (take (lentBytes count) all) (now («family_rows» .entry)) (now («class_rows» .entry)) row (told (r .answer) (r .size))
         (now («family_rows» .exit)) (now («class_rows» .exit)) ⌝ }
     ensures silent { λ r. ⌜ ((number at : ℕ) → told (r .answer) 0 ≡ refused number at → r .size ≡ 0) ⌝ }
 {

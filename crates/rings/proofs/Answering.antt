@@ -1,36 +1,38 @@
 -- The claim of a call from what the engine found and what was delivered.
 use mathlib.Core.Path.{_≡_, refl, sym, ap, _∙_, subst}
 use mathlib.Core.Logic.{inl, inr}
-use mathlib.Core.List.{List, [], _∷_}
-use Prim.Native.Nat.{ℕ, zero, suc, _+_, _*_, _/_, _<_, _≤_}
+use mathlib.Core.List.{List}
+use Prim.Native.Nat.{ℕ, _+_, _*_, _/_, _<_, _≤_}
 use native.Mathlib.Omega.{arith}
-use lib.ListN.{length, getD, replicate, length-replicate}
-use lib.Seq.{paste}
+use native.Mathlib.Nat.{zero-add}
+use lib.ListN.{length, getD, drop, replicate, length-replicate, List·getD-eq-default}
+use lib.Seq.{paste, take-at}
 use Rattle.bondset.proofs.Laws.{lt-or-ge}
 use Rattle.cycles.specs.Compound.{Compound, cyclomatic}
 use Rattle.cycles.specs.Refusal.{Accepted}
-use Rattle.cycles.specs.Rows.{Row, Report, Right}
+use Rattle.cycles.specs.Rows.{Report, Right, most}
 use Rattle.answers.specs.Answered.{Told, full, refused, Answered, by-input, by-rows, by-class-rows, by-rings, in-full}
-use Rattle.answers.specs.Answered.{familyBytes, classBytes, over, sizeOf, familyRoom, classRoom, most}
+use Rattle.answers.specs.Answered.{familyBytes, classBytes, over, sizeOf, familyRoom, classRoom}
 use Rattle.answers.proofs.Places.{length-familyBytes, length-classBytes}
+use Rattle.answers.proofs.Demand2.{sizeOf-past}
 use Rattle.model.specs.Run.{report, reportBy}
 use Rattle.model.proofs.Meets.{report-accepted}
-use Rattle.paths.specs.declared.counting.Count.{Count}
-use Rattle.paths.specs.Counts.{counted}
-use Rattle.paths.proofs.Added.{counted-flagged, counted-not-flagged}
-use Rattle.compound.specs.Nets.{compound}
+use Rattle.counting.specs.declared.Count.{Count}
+use Rattle.counting.specs.Counts.{counted}
+use Rattle.counting.proofs.Added.{counted-flagged, counted-not-flagged}
+use Rattle.reading.specs.Reading.{compound}
 use Rattle.candidates.specs.declared.Going.{Going}
 use Rattle.rings.specs.declared.Answer.{Answer}
-use Rattle.rings.specs.declared.Answer.the-variants.{Full, FewRows, FewClassRows, ManyRings}
+use Rattle.rings.specs.declared.Answer.the-variants.{FewRows, FewClassRows, ManyRings}
 use Rattle.engine.specs.Reports.{Reports}
-use Rattle.rings.specs.Calls.{told, RefusedBy, Fitting, Delivered, Answers}
-use Rattle.engine.proofs.Reporting.{getD-past}
-use Rattle.rings.proofs.Copying.{paste-over}
+use Rattle.rings.specs.declared.call.Ground.{Ground}
+use Rattle.rings.specs.declared.call.Ground.the-variants.{Fine, Refused}
+use Rattle.rings.specs.Calls.{told, RefusedBy, Fitted, few-rows, few-class-rows, many-rings, fine, fullOf, Fitting, Delivered, Answers}
 
 -- ---- the number of rings
 
 -- There are more rings than can be told.
-pub counted-over : (count : Count) (total : ℕ) → count ≡ counted most total → (count .over ≡ 0 → ⊥) → most < total
+counted-over : (count : Count) (total : ℕ) → count ≡ counted most total → (count .over ≡ 0 → ⊥) → most < total
 counted-over count total e over = elim (lt-or-ge most total) [
   | inl l ↦ l
   | inr l ↦ absurd (over (ap (λ (k : Count). k .over) e ∙ counted-not-flagged most total l))
@@ -47,17 +49,24 @@ unfolding counted
 counted-rings count total e within = ap (λ (k : Count). k .rings) e ∙ omega arith
 
 -- None of 7 to 9 holds.
-pub fitting : {c : Compound} {from : ℕ} {out table few out′ table′ few′ rows classRows : List ℕ} {got : Going}
-    → Reports c from out table few got out′ table′ few′
-    → got .tally .families ≤ familyRoom rows → got .tally .classes ≤ classRoom classRows → got .rings .over ≡ 0 → Fitting c rows classRows
-fitting {c} {got = got} reports f k within =
-    record {
-      families = omega (arith, reports .families);
-      classes = omega (arith, reports .classes);
-      rings = counted-within (got .rings) (report c .rings) (reports .rings) within;
-    }
+pub fitting : {c : Compound} {from : ℕ} {out table few out′ table′ few′ rows classRows : List ℕ} {got : Going} {g : Ground}
+    → Reports c from out table few got out′ table′ few′ → g ≡ Fine → Fitted got (length rows) (length classRows) g → Fitting c rows classRows
+fitting {c} {rows = rows} {classRows} {got} reports is fits = given (subst (Fitted got (length rows) (length classRows)) is fits)
+  where
+    given : Fitted got (length rows) (length classRows) Fine → Fitting c rows classRows
+    given (fine f k within) =
+        record {
+          families = omega (arith, f, reports .families);
+          classes = omega (arith, k, reports .classes);
+          rings = counted-within (got .rings) (report c .rings) (reports .rings) within;
+        }
 
 -- ---- what is delivered
+
+-- The first bytes of what stands over one buffer, copied to another, stand over that.
+paste-over : (bytes lent d : List ℕ) (n : ℕ) → length bytes ≡ n → paste d 0 (over bytes lent) n ≡ over bytes d
+unfolding over
+paste-over bytes lent d n e = rw (take-at bytes (drop (length bytes) lent) n e, zero-add n, e)
 
 families-count : (c : Compound) → length (familyBytes (report c .rows)) ≡ 8 * report c .families
 unfolding report reportBy
@@ -70,12 +79,6 @@ classes-count c = length-classBytes (report c .classRows)
 families-length : (c : Compound) → report c .families ≡ length (report c .rows)
 unfolding report reportBy
 families-length c = refl
-
-sizeOf-past : (rows : List Row) (i : ℕ) → length rows ≤ i → sizeOf rows i ≡ 0
-unfolding sizeOf
-sizeOf-past [] i h = refl
-sizeOf-past (row ∷ rows) zero h = absurd (omega arith)
-sizeOf-past (row ∷ rows) (suc i) h = sizeOf-past rows i (omega arith)
 
 zeros : (k : ℕ) → replicate {A = ℕ} k 0 ≡ replicate (length (replicate {A = ℕ} k 0)) 0
 zeros k = rw (length-replicate {A = ℕ} k 0)
@@ -106,7 +109,7 @@ module _ {c : Compound} {from : ℕ} {rows classRows sizes rows′ classRows′ 
       size j = elim (lt-or-ge j 16) [
         | inl l ↦ first .sized (zeros 16) (fits .rings) j (omega (arith, l, length-replicate {A = ℕ} 16 0))
         | inr l ↦
-            getD-past few j (omega (arith, first .sizesKept, length-replicate {A = ℕ} 16 0))
+            List·getD-eq-default few 0 (omega (arith, first .sizesKept, length-replicate {A = ℕ} 16 0))
             ∙ sym (sizeOf-past (report c .rows) (from + j) (omega (arith, families-length c, first .families)))
       ]
 
@@ -147,7 +150,7 @@ module _ {n : ℕ} {bonds : List ℕ} {from : ℕ} {rows classRows sizes : List 
 
   module _ (accepted : Accepted (compound n bonds)) where
     -- Refusal 7.
-    pub answers-few-rows : {families : ℕ} → families ≡ reported n bonds .families → familyRoom rows < families
+    answers-few-rows : {families : ℕ} → families ≡ reported n bonds .families → familyRoom rows < families
         → Answers n bonds from rows classRows sizes (FewRows families) rows classRows sizes
     unfolding told
     answers-few-rows {families} e h =
@@ -155,7 +158,7 @@ module _ {n : ℕ} {bonds : List ℕ} {from : ℕ} {rows classRows sizes : List 
         (λ i. by-rows {R = reported n bonds} accepted (report-accepted (compound n bonds) accepted) (omega arith))
 
     -- Refusal 8.
-    pub answers-few-class-rows : {classes : ℕ} → reported n bonds .families ≤ familyRoom rows
+    answers-few-class-rows : {classes : ℕ} → reported n bonds .families ≤ familyRoom rows
         → classes ≡ reported n bonds .classes → classRoom classRows < classes
         → Answers n bonds from rows classRows sizes (FewClassRows classes) rows classRows sizes
     unfolding told
@@ -164,27 +167,39 @@ module _ {n : ℕ} {bonds : List ℕ} {from : ℕ} {rows classRows sizes : List 
         (λ i. by-class-rows {R = reported n bonds} accepted (report-accepted (compound n bonds) accepted) f (omega arith))
 
     -- Refusal 9.
-    pub answers-many-rings : reported n bonds .families ≤ familyRoom rows → reported n bonds .classes ≤ classRoom classRows → most < reported n bonds .rings
+    answers-many-rings : reported n bonds .families ≤ familyRoom rows → reported n bonds .classes ≤ classRoom classRows → most < reported n bonds .rings
         → Answers n bonds from rows classRows sizes ManyRings rows classRows sizes
     unfolding told
     answers-many-rings f k h =
         answers-refused ManyRings 9 0 (λ size. refl) (λ i. by-rings {R = reported n bonds} accepted (report-accepted (compound n bonds) accepted) f k h)
 
+    -- One of 7 to 9, as the engine looks for them.
+    pub answers-unfit : {g : Ground} {a : Answer} {got : Going} {out table few out′ table′ few′ : List ℕ}
+        → Reports (compound n bonds) from out table few got out′ table′ few′
+        → g ≡ Refused a → Fitted got (length rows) (length classRows) g → Answers n bonds from rows classRows sizes a rows classRows sizes
+    answers-unfit {got = got} reports is fits = given (subst (Fitted got (length rows) (length classRows)) is fits)
+      where
+        given : {a : Answer} → Fitted got (length rows) (length classRows) (Refused a) → Answers n bonds from rows classRows sizes a rows classRows sizes
+        given (few-rows h) = answers-few-rows (reports .families) h
+        given (few-class-rows f h) = answers-few-class-rows (omega (arith, f, reports .families)) (reports .classes) h
+        given (many-rings f k h) =
+            answers-many-rings (omega (arith, f, reports .families)) (omega (arith, k, reports .classes)) (counted-over _ _ (reports .rings) h)
+
     -- The full answer.
-    pub answers-full : {rows′ classRows′ sizes′ : List ℕ} {cycles : ℕ} {got : Going} {out table few out′ table′ few′ : List ℕ}
+    pub answers-full : {rows′ classRows′ sizes′ : List ℕ} {a : Answer} {got : Going} {out table few out′ table′ few′ : List ℕ}
         → Reports (compound n bonds) from out table few got out′ table′ few′
         → Fitting (compound n bonds) rows classRows
         → Delivered (compound n bonds) from rows classRows sizes rows′ classRows′ sizes′
-        → cycles ≡ cyclomatic (compound n bonds)
-        → Answers n bonds from rows classRows sizes (Full cycles (got .tally .families) (got .tally .classes) (got .tally .total) (got .rings .rings))
-        rows′ classRows′ sizes′
-    unfolding told
-    answers-full {rows′} {classRows′} {sizes′} {cycles} {got} reports fits delivered e =
-        record {
+        → a ≡ fullOf (compound n bonds) got
+        → Answers n bonds from rows classRows sizes a rows′ classRows′ sizes′
+    unfolding told fullOf
+    answers-full {rows′} {classRows′} {sizes′} {a} {got} reports fits delivered is =
+        subst (λ (a : Answer). Answers n bonds from rows classRows sizes a rows′ classRows′ sizes′) (sym is)
+        (record {
           answered = λ i. (sizeOf (reported n bonds .rows) i, claim i (sizeOf (reported n bonds .rows) i) refl);
           sized = λ j h. claim (from + j) (getD sizes′ j 0) (delivered .sized j h);
           kept = λ number at e. absurd (full-refused e);
-        }
+        })
       where
         right : Right (compound n bonds) (λ a. a) (reported n bonds)
         right = report-accepted (compound n bonds) accepted
@@ -193,9 +208,10 @@ module _ {n : ℕ} {bonds : List ℕ} {from : ℕ} {rows classRows sizes : List 
         rings = counted-rings (got .rings) (reported n bonds .rings) (reports .rings) (fits .rings)
 
         claim : (i size : ℕ) → size ≡ sizeOf (reported n bonds .rows) i
-            → Answered n bonds rows classRows i (full cycles (got .tally .families) (got .tally .classes) (got .tally .total) (got .rings .rings) size) rows′ classRows′
+            → Answered n bonds rows classRows i
+            (full (cyclomatic (compound n bonds)) (got .tally .families) (got .tally .classes) (got .tally .total) (got .rings .rings) size) rows′ classRows′
         claim i size is =
-            rw (is, e ∙ sym (right .cyclomatic-is), reports .families, reports .classes, reports .total, rings, delivered .families, delivered .classes)
+            rw (is, sym (right .cyclomatic-is), reports .families, reports .classes, reports .total, rings, delivered .families, delivered .classes)
             (in-full {R = reported n bonds} accepted right (fits .families) (fits .classes) (fits .rings))
 
 -- The claim at a row, with its size.

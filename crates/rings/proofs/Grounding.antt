@@ -13,11 +13,11 @@ use Rattle.model.specs.Fault.{Fault, none, fault, orElse, when, firstOf, bondFa
 use Rattle.model.specs.Layer.{wave}
 use Rattle.model.specs.Net.{adjOf, touchOf}
 use Rattle.model.proofs.Faults.{fault-refused, none-accepted}
-use Rattle.compound.specs.Nets.{neighbours}
-use Rattle.compound.specs.Reading.{faultOf, bondsRead, Reading}
-use Rattle.compound.specs.declared.Read.{Read}
-use Rattle.compound.specs.declared.Read.the-variants as read
-use Rattle.compound.proofs.Same.{reached-same}
+use Rattle.atoms.specs.Nets.{neighbours}
+use Rattle.reading.specs.Reading.{faultOf, bondsRead, Reading}
+use Rattle.reading.specs.declared.Verdict.{Verdict}
+use Rattle.reading.specs.declared.Verdict.the-variants as verdict
+use Rattle.search.proofs.Same.{reached-same}
 use Rattle.rings.specs.declared.Answer.{Answer}
 use Rattle.rings.specs.declared.Answer.the-variants as answer
 use Rattle.rings.specs.declared.call.Ground.{Ground}
@@ -64,28 +64,28 @@ module _ (c : Compound) where
 
     module _ {adj touch : List ℕ} where
       -- Refusal 3.
-      pub refused-no-atom : {k : ℕ} {r : Read} → r ≡ read.NoAtom k → Reading c r adj touch → RefusedBy c (answer.NoAtom k)
+      pub refused-no-atom : {k : ℕ} {r : Verdict} → r ≡ verdict.NoAtom k → Reading c r adj touch → RefusedBy c (answer.NoAtom k)
       unfolding told faultOf
       refused-no-atom {k} is r = record { number = 3; place = k; tells = λ size. refl; rightly = bond-refused (sym (ap faultOf is) ∙ r .fault) }
 
       -- Refusal 4.
-      pub refused-loop : {k : ℕ} {r : Read} → r ≡ read.Loop k → Reading c r adj touch → RefusedBy c (answer.Loop k)
+      pub refused-loop : {k : ℕ} {r : Verdict} → r ≡ verdict.Loop k → Reading c r adj touch → RefusedBy c (answer.Loop k)
       unfolding told faultOf
       refused-loop {k} is r = record { number = 4; place = k; tells = λ size. refl; rightly = bond-refused (sym (ap faultOf is) ∙ r .fault) }
 
       -- Refusal 5.
-      pub refused-again : {k : ℕ} {r : Read} → r ≡ read.Again k → Reading c r adj touch → RefusedBy c (answer.Again k)
+      pub refused-again : {k : ℕ} {r : Verdict} → r ≡ verdict.Again k → Reading c r adj touch → RefusedBy c (answer.Again k)
       unfolding told faultOf
       refused-again {k} is r = record { number = 5; place = k; tells = λ size. refl; rightly = bond-refused (sym (ap faultOf is) ∙ r .fault) }
 
-      module _ {found : Read} (is : found ≡ read.Fine) (r : Reading c found adj touch) where
+      module _ {found : Verdict} (is : found ≡ verdict.Fine) (r : Reading c found adj touch) where
         read-all : adj ≡ adjOf c (m c)
         unfolding bondsRead
-        read-all = r .neighbours ∙ ap (λ (f : Read). adjOf c (bondsRead c f)) is
+        read-all = r .neighbours ∙ ap (λ (f : Verdict). adjOf c (bondsRead c f)) is
 
         touched-all : touch ≡ touchOf c (m c)
         unfolding bondsRead
-        touched-all = r .bonds ∙ ap (λ (f : Read). touchOf c (bondsRead c f)) is
+        touched-all = r .bonds ∙ ap (λ (f : Verdict). touchOf c (bondsRead c f)) is
 
         seen : (b : Bool) → b ≡ eqb ((wave (neighbours adj) 0 0 (c .n)) .seen) (2 ^ c .n - 1) → firstFault c ≡ when (not b) (fault 6 0)
         unfolding orElse faultOf pieceFault

@@ -1,4 +1,4 @@
-pub mod Copying
 pub mod Grounding
 pub mod Answering
+pub mod Refusals
 pub mod Unique

@@ -1,20 +1,19 @@
 //! One call: the input is refused, or the engine runs and what it found is refused or delivered.
 ghost use mathlib.Core.Path.{_≡_};
-ghost use Prim.Native.Nat.{ℕ, _-_, _/_, _<_, _≤_, min};
-ghost use lib.ListN.{length, getD, replicate};
-ghost use lib.Seq.{paste};
-ghost use Rattle.compound.specs.Nets.{compound};
+ghost use Prim.Native.Nat.{_+_, _/_, _≤_, min};
+ghost use lib.ListN.{length, replicate};
+ghost use Rattle.reading.specs.Reading.{compound};
 ghost use Rattle.engine.specs.Reports.{Stands, Reports};
-ghost use Rattle.rings.specs.Calls.{Grounded, Fitting, Delivered, Answers};
+ghost use Rattle.rings.specs.Calls.{Grounded, Fitted, fullOf, Fitting, Delivered, Answers};
 use crate::Answer;
 use candidates::Going;
-use compound::Read;
+use reading::Verdict;
 
-/// Whether an input is a compound that the engine works on.
+/// Whether a call goes on.
 pub enum Ground {
-    /// It is.
+    /// It does.
     Fine,
-    /// It is not, by the first of the refusals 1 to 6 that holds.
+    /// It does not: the first refusal that holds is its answer.
     Refused(Answer),
 }
 
@@ -36,19 +35,19 @@ fn admit(n: usize, bonds: &[u8], adj: &mut [u64], touch: &mut [u64]) -> Ground
     if bonds.len() / 2 > 96 {
         return Ground::Refused(Answer::WrongBytes);
     }
-    let found = compound::reading::read(n, bonds, adj, touch);
+    let found = reading::read(n, bonds, adj, touch);
     match found {
-        Read::NoAtom(k) => {
+        Verdict::NoAtom(k) => {
             return Ground::Refused(Answer::NoAtom(k as u64));
         }
-        Read::Loop(k) => {
+        Verdict::Loop(k) => {
             return Ground::Refused(Answer::Loop(k as u64));
         }
-        Read::Again(k) => {
+        Verdict::Again(k) => {
             return Ground::Refused(Answer::Again(k as u64));
         }
-        Read::Fine => {
-            if compound::search::in_one_piece(n, adj) {
+        Verdict::Fine => {
+            if search::in_one_piece(n, adj) {
                 return Ground::Fine;
             }
             return Ground::Refused(Answer::Pieces);
@@ -56,43 +55,33 @@ fn admit(n: usize, bonds: &[u8], adj: &mut [u64], touch: &mut [u64]) -> Ground
     }
 }
 
-/// Copies the first `count` bytes of `bytes` to the start of `to`.
-fn copy(to: &mut [u8], bytes: &[u8], count: usize)
-    requires { ⌜ count ≤ length (now bytes) ⌝ }
-    requires { ⌜ count ≤ length (now to) ⌝ }
-    ensures { λ _. ⌜ now (to .exit) ≡ paste (now (to .entry)) 0 (now (bytes .entry)) count ⌝ }
+/// How many family rows fit so many bytes.
+fn room(bytes: usize) -> usize
+    ensures { λ r. ⌜ r ≡ min (bytes / 8) 4096 ⌝ }
 {
-    for i in 0..count {
-        to[i] = bytes[i];
+    if bytes / 8 < 4096 {
+        return bytes / 8;
     }
+    4096
 }
 
-/// Size `j` of those at hand, 0 past the last.
-fn size_at(few: &[u64], j: usize) -> u64
-    ensures { λ r. ⌜ r ≡ getD (now (few .entry)) j 0 ⌝ }
+/// Refusals 7 to 9, in their order, of what the engine found and of so many lent bytes.
+fn fits(got: Going, row_bytes: usize, class_bytes: usize) -> Ground
+    ensures { λ r. ⌜ Fitted got «row_bytes» «class_bytes» r ⌝ }
 {
-    if j < few.len() {
-        return few[j];
+    let families = got.tally.families;
+    let found = got.tally.classes;
+    if families > room(row_bytes) {
+        return Ground::Refused(Answer::FewRows(families as u64));
     }
-    0
-}
-
-/// Fills `sizes` with the sizes at hand, and with 0 past the last of them.
-fn copy_sizes(sizes: &mut [u64], few: &[u64])
-    ensures { λ _. ⌜ ((j : ℕ) → j < length (now (sizes .entry)) → getD (now (sizes .exit)) j 0 ≡ getD (now (few .entry)) j 0) ⌝ }
-{
-    for j in 0..sizes.len() {
-        sizes[j] = size_at(few, j);
+    if found > class_bytes / 5 {
+        return Ground::Refused(Answer::FewClassRows(found as u64));
     }
-}
-
-/// Fills `sizes` with 0.
-fn clear(sizes: &mut [u64])
-    ensures { λ _. ⌜ now (sizes .exit) ≡ replicate (length (now (sizes .entry))) 0 ⌝ }
-{
-    for j in 0..sizes.len() {
-        sizes[j] = 0;
+    let rings = got.rings;
+    if rings.over != 0 {
+        return Ground::Refused(Answer::ManyRings);
     }
+    Ground::Fine
 }
 
 /// Hands over the rows and the sizes, all of which fit: from the room of a first run where they fit that too, by another run if not.
@@ -120,24 +109,29 @@ fn deliver(
     let found = got.tally.classes;
     if families <= 16 {
         if found <= 8 {
-            copy(family_rows, rows, 8 * families);
-            copy(class_rows, classes, 5 * found);
-            copy_sizes(sizes, few);
+            buffers::copy(family_rows, rows, 8 * families);
+            buffers::copy(class_rows, classes, 5 * found);
+            buffers::copy_sizes(sizes, few);
             return;
         }
     }
-    clear(sizes);
+    buffers::clear(sizes);
     engine::report(n, bonds, adj, touch, from, family_rows, class_rows, sizes);
 }
 
-/// How many family rows fit so many bytes.
-fn room(bytes: usize) -> usize
-    ensures { λ r. ⌜ r ≡ min (bytes / 8) 4096 ⌝ }
+/// The five numbers of a full answer.
+fn full(n: usize, bonds: &[u8], got: Going) -> Answer
+    requires { ⌜ n ≤ length (now bonds) / 2 + 1 ⌝ }
+    ensures { λ r. ⌜ r ≡ fullOf (compound n (now (bonds .entry))) got ⌝ }
 {
-    if bytes / 8 < 4096 {
-        return bytes / 8;
+    let cycles = engine::cyclomatic(n, bonds);
+    Answer::Full {
+        cyclomatic: cycles as u64,
+        families: got.tally.families as u64,
+        classes: got.tally.classes as u64,
+        total: got.tally.total,
+        rings: got.rings.rings,
     }
-    4096
 }
 
 /// Refusals 7 to 9, in their order, or the full answer, for a compound that none of 1 to 6 refuses. No lent buffer is touched before these
@@ -169,17 +163,9 @@ fn accepted(
         &mut classes,
         &mut few,
     );
-    let families = got.tally.families;
-    let found = got.tally.classes;
-    if families > room(family_rows.len()) {
-        return Answer::FewRows(families as u64);
-    }
-    if found > class_rows.len() / 5 {
-        return Answer::FewClassRows(found as u64);
-    }
-    let rings = got.rings;
-    if rings.over != 0 {
-        return Answer::ManyRings;
+    let room = fits(got, family_rows.len(), class_rows.len());
+    if let Ground::Refused(a) = room {
+        return a;
     }
     deliver(
         n,
@@ -195,14 +181,7 @@ fn accepted(
         class_rows,
         sizes,
     );
-    let full = engine::cyclomatic(n, bonds);
-    Answer::Full {
-        cyclomatic: full as u64,
-        families: families as u64,
-        classes: found as u64,
-        total: got.tally.total,
-        rings: rings.rings,
-    }
+    full(n, bonds, got)
 }
 
 /// A call: the sizes of the families from row `from` on go into `sizes`, 0 past the last row.

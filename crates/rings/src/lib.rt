@@ -2,12 +2,14 @@
 //! numbered refusal.
 //!
 //! A call asks nothing of its caller. It promises the relation `Answered`, which leaves one answer and one content of the
-//! lent buffers for each input; a refused call has not been handed them when the refusal is decided.
+//! lent buffers for each input. What decides a refusal is handed the lengths of the lent buffers at the most, and not the buffers.
+//!
+//! Which refusal has which number stands in `refusal_of`, for all who print an answer or pass it on.
 ghost use mathlib.Core.Path.{_≡_};
 ghost use Prim.Native.Nat.{ℕ, _<_};
 ghost use lib.ListN.{length, getD};
 ghost use Rattle.answers.specs.Answered.{refused, Answered};
-ghost use Rattle.rings.specs.Calls.{told};
+ghost use Rattle.rings.specs.Calls.{told, refusalIn};
 
 mod call;
 
@@ -15,10 +17,15 @@ mod call;
 pub enum Answer {
     /// The compound is answered in full, and its rows are written.
     Full {
+        /// Bonds - atoms + 1: the number of rings in the basis.
         cyclomatic: u64,
+        /// The kept families: so many rows are written.
         families: u64,
+        /// The classes: so many class rows are written.
         classes: u64,
+        /// The total length of the basis.
         total: u64,
+        /// The relevant rings: the sum of the sizes.
         rings: u64,
     },
     /// 1: no atom, or more than 64.
@@ -39,6 +46,14 @@ pub enum Answer {
     FewClassRows(u64),
     /// 9: there are more rings than a word can say.
     ManyRings,
+}
+
+/// A refusal's number and what it names.
+pub struct Refusal {
+    /// 1 to 9, or 0 for a full answer.
+    pub number: u64,
+    /// A bond (3 to 5) or the number of rows needed (7, 8); 0 otherwise.
+    pub at: u64,
 }
 
 /// An answer, and the size of one family.
@@ -94,4 +109,28 @@ pub fn families_sized(
     ensures kept { λ r. ⌜ ((number at : ℕ) → told r 0 ≡ refused number at → now (sizes .exit) ≡ now (sizes .entry)) ⌝ }
 {
     call::answer(n, bonds, 0, family_rows, class_rows, sizes)
+}
+
+/// The refusal of an answer, in the scope document's numbers: 0 twice for a full answer.
+pub fn refusal_of(answer: Answer) -> Refusal
+    ensures { λ r. ⌜ r ≡ refusalIn (told answer 0) ⌝ }
+{
+    match answer {
+        Answer::Full {
+            cyclomatic: _,
+            families: _,
+            classes: _,
+            total: _,
+            rings: _,
+        } => Refusal { number: 0, at: 0 },
+        Answer::WrongAtoms => Refusal { number: 1, at: 0 },
+        Answer::WrongBytes => Refusal { number: 2, at: 0 },
+        Answer::NoAtom(at) => Refusal { number: 3, at },
+        Answer::Loop(at) => Refusal { number: 4, at },
+        Answer::Again(at) => Refusal { number: 5, at },
+        Answer::Pieces => Refusal { number: 6, at: 0 },
+        Answer::FewRows(at) => Refusal { number: 7, at },
+        Answer::FewClassRows(at) => Refusal { number: 8, at },
+        Answer::ManyRings => Refusal { number: 9, at: 0 },
+    }
 }

@@ -1,8 +1,7 @@
 -- Independent lists, by recursion: exchange, extension, and the one expansion of each sum.
 use mathlib.Core.Path.{_≡_, refl, sym, _∙_, ap}
-use mathlib.Core.List.{List, [], _∷_, _++_}
-use Prim.Native.Nat.{ℕ}
-use native.Mathlib.Omega.{arith}
+use mathlib.Core.List.{List, [], _∷_, _++_, cons≢nil}
+use mathlib.Core.HLevel.{dec→stable}
 use Rattle.spans.specs.Group.{Space}
 use Rattle.spans.specs.Basis.{Part, All, Sum, Independent}
 use Rattle.spans.proofs.Xor.{cancel, both, undo, differ}
@@ -57,15 +56,13 @@ module _ {X : Type 0} (G : Space X) where
 
   -- What each of two lists spans modulo zs lies in the span of zs, if both together are independent modulo zs.
   pub span-apart : (xs ys zs : List X) {v : X} → Indep (xs ++ (ys ++ zs)) → Span G (xs ++ zs) v → Span G (ys ++ zs) v → Span G zs v
-  span-apart xs ys zs {v} i s t = by-cases (span-dec G zs v)
+  span-apart xs ys zs {v} i s t = dec→stable (span-dec G zs v) not-outside
     where
-      by-cases : Dec (Span G zs v) → Span G zs v
-      by-cases (yes r) = r
-      by-cases (no n) =
+      not-outside : ¬ ¬ Span G zs v
+      not-outside n =
           let u = uses G xs zs v s n in
-          absurd
-          (first (indep-perm (pick-perm (ys ++ zs) (u .pick)) i)
-          (at G (cancel G v (u .one)) (add G (right-of G (u .others) t) (span-middle G (u .others) ys zs (u .remains)))))
+          first (indep-perm (pick-perm (ys ++ zs) (u .pick)) i)
+          (at G (cancel G v (u .one)) (add G (right-of G (u .others) t) (span-middle G (u .others) ys zs (u .remains))))
 
   -- Exchange: v comes in for b, which the expansion of v holds; independence and the span stay.
   pub record Exchanged (b v : X) (xs : List X) : Type 0 where
@@ -131,15 +128,12 @@ module _ {X : Type 0} (G : Space X) where
   unfolding Sum
   independent {xs} i = record { empty = λ ys p e. parts-same i p (part-none xs) e }
 
-  cons-not-nil : {x : X} {xs : List X} → x ∷ xs ≡ [] → ⊥
-  cons-not-nil e = let z : _≡_ {A = ℕ} 0 1 = cc in omega arith
-
   pub by-recursion : (xs : List X) → Independent G xs → Indep xs
   unfolding Sum
   by-recursion [] h = none
   by-recursion (x ∷ xs) h =
       more
-      (λ s. let (ys, p, e) = to-part G s in cons-not-nil (h .empty (x ∷ ys) (Part.keep p) (differ G x (Sum G ys) (sym e))))
+      (λ s. let (ys, p, e) = to-part G s in cons≢nil (h .empty (x ∷ ys) (Part.keep p) (differ G x (Sum G ys) (sym e))))
       (by-recursion xs (record { empty = λ ys p e. h .empty ys (Part.skip p) e }))
 
   -- Two parts of an independent list with one sum are the same part.

@@ -8,8 +8,7 @@ use Rattle.spans.proofs.Xor.{xor, both}
 use Rattle.spans.proofs.Lists.{part-append, part-all, all-append, Perm, perm-blocks, pick-perm, pick-part, all-picks}
 use Rattle.spans.proofs.Span.{Span, at, zero, head, add, span-dec, mono, left-of, right-of}
 use Rattle.spans.proofs.Span.{span-perm, to-part, from-part, sum-in, pick-sum, expand, Uses, uses}
-use Rattle.spans.proofs.Indep.{Indep, first, rest, indep-part, indep-perm, exchanged}
-use Rattle.spans.proofs.Indep.{Extended, extend, extended-spans, independent, by-recursion}
+use Rattle.spans.proofs.Indep.{Indep, first, rest, indep-part, indep-perm, exchanged, Extended, extend, extended-spans, independent, by-recursion}
 
 module _ {X : Type 0} (G : Space X) (P : X → Type 0) (S : List X) where
   open Space G using (_⊕_, assoc)

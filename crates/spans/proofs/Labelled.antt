@@ -2,12 +2,11 @@
 use mathlib.Core.Path.{_≡_, refl, sym, _∙_, ap, subst}
 use mathlib.Core.List.{List, [], _∷_, _++_}
 use mathlib.Core.Logic.{_⊎_, inl, inr, Dec·not}
-use Prim.Native.Nat.{ℕ, suc}
+use Prim.Native.Nat.{ℕ}
 use native.Mathlib.Decide.{ℕ-discrete}
-use lib.ListN.{length}
-use Rattle.spans.specs.Basis.{Part, All, Holding}
+use Rattle.spans.specs.Basis.{Part, All}
 use Rattle.spans.proofs.Lists.{part-all, all-map, all-and, part-refl, part-none, part-trans, Perm}
-use Rattle.spans.proofs.Sift.{Sift, sift-all, sift-part, sift-most, sift-perm, sift-holding, sift, sifted}
+use Rattle.spans.proofs.Sift.{Sift, sift-all, sift-part, sift-most, sift-perm, sift, sifted}
 
 -- An element with a label.
 pub record Labelled (X : Type 0) : Type 0 where
@@ -81,11 +80,6 @@ module _ {X : Type 0} where
   unfolding its
   its-append [] N = refl
   its-append (m ∷ M) N = ap (λ (l : List X). m .it ∷ l) (its-append M N)
-
-  pub its-length : (M : List (Labelled X)) → length (its M) ≡ length M
-  unfolding its
-  its-length [] = refl
-  its-length (m ∷ M) = ap suc (its-length M)
 
   pub its-part : {M N : List (Labelled X)} → Part M N → Part (its M) (its N)
   unfolding its
@@ -161,11 +155,6 @@ module _ {X : Type 0} where
 
   listed-all : (l : ℕ) (M : List (Labelled X)) → All (λ m. m .label ≡ l) (listed l M)
   listed-all l M = sift-all _ (listed-sift l M)
-
-  -- So many members of M have label l.
-  pub within-count : (l : ℕ) (M : List (Labelled X)) → Holding (λ m. m .label ≡ l) M (length (within l M))
-  unfolding within
-  within-count l M = subst (λ (n : ℕ). Holding (λ m. m .label ≡ l) M n) (sym (its-length (listed l M))) (sift-holding _ (listed-sift l M))
 
   pub within-members : (l : ℕ) (M : List (Labelled X)) → All (λ x. Member l x M) (within l M)
   unfolding within

@@ -3,6 +3,7 @@
 use mathlib.Core.Path.{_≡_, refl, sym, _∙_, ap, subst}
 use mathlib.Core.List.{List, [], _∷_, _++_, append-assoc}
 use mathlib.Core.Logic.{_⊎_, inl, inr}
+use mathlib.Core.HLevel.{dec→stable}
 use Prim.Native.Nat.{ℕ}
 use native.Mathlib.Decide.{ℕ-discrete}
 use lib.ListN.{length}
@@ -86,11 +87,8 @@ module _ {X : Type 0} (G : Space X) (S : List X) where
     in-without n h = mono G (part-append S (within-without M n)) (h .inside)
 
     pub label-unique : {l j : ℕ} {x : X} → HasLabel M l x → HasLabel M j x → l ≡ j
-    label-unique {l} {j} a b = by-cases (ℕ-discrete l j)
-      where
-        by-cases : Dec (l ≡ j) → l ≡ j
-        by-cases (yes e) = e
-        by-cases (no n) = absurd (a .fresh (span-apart G (within l M) (without l M) S (within-indep l) (a .inside) (in-without n b)))
+    label-unique {l} {j} a b =
+        dec→stable (ℕ-discrete l j) (λ n. a .fresh (span-apart G (within l M) (without l M) S (within-indep l) (a .inside) (in-without n b)))
 
     -- A listed element has the label that it is listed with.
     pub member-label : {l : ℕ} {x : X} → Member l x M → HasLabel M l x
@@ -132,7 +130,7 @@ module _ {X : Type 0} (G : Space X) (S : List X) where
       -- Interchangeable elements have one label.
       pub swap-same-label : {l j : ℕ} {x y : X} → HasLabel M l x → HasLabel M j y → Swap G P S x y → l ≡ j
       unfolding Sum
-      swap-same-label {l} {j} {x} {y} a b s = by-cases (ℕ-discrete j l)
+      swap-same-label {l} {j} {x} {y} a b s = sym (dec→stable (ℕ-discrete j l) not-apart)
         where
           p : Parted M j (s .others)
           p = parted j (all-map labelled (s .have))
@@ -146,10 +144,8 @@ module _ {X : Type 0} (G : Space X) (S : List X) where
           vanishes : ¬ (j ≡ l) → Span G S (y ⊕ p .inner)
           vanishes n = span-apart G (within j M) (without j M) S (within-indep j) (add G (b .inside) (p .inner-in)) (outside n)
 
-          by-cases : Dec (j ≡ l) → l ≡ j
-          by-cases (yes e) = sym e
-          by-cases (no n) =
-              absurd (first G (s .indep) (at G (undo G y (p .inner)) (add G (right-of G (s .others) (vanishes n)) (left-of G S (p .from)))))
+          not-apart : ¬ ¬ (j ≡ l)
+          not-apart n = first G (s .indep) (at G (undo G y (p .inner)) (add G (right-of G (s .others) (vanishes n)) (left-of G S (p .from))))
 
       label-closed : {l : ℕ} {x y : X} → P y → HasLabel M l x → Swap G P S x y → HasLabel M l y
       label-closed {y} py h s = let (j, k) = labelled y py in subst (λ (n : ℕ). HasLabel M n y) (sym (swap-same-label h k s)) k

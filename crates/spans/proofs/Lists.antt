@@ -1,5 +1,7 @@
--- Parts of a list, its orders, and what holds of each member.
+-- Parts of a list, its orders, what holds of each member, and the elements of two lists one after the other.
 use mathlib.Core.List.{List, [], _∷_, _++_}
+use mathlib.Core.Logic.{_⊎_, inl, inr, ⊎-elim}
+use Rattle.spans.specs.Elements.{_∈_}
 use Rattle.spans.specs.Basis.{Part, All}
 
 module _ {X : Type 0} where
@@ -131,3 +133,18 @@ module _ {X : Type 0} where
   pub all-picks : {P : X → Type 0} (xs : List X) → ((c : X) (ys : List X) → Pick xs c ys → P c) → All P xs
   all-picks [] f = All.nil
   all-picks (x ∷ xs) f = All.cons (f x xs Pick.here) (all-picks xs (λ c ys p. f c (x ∷ ys) (Pick.there p)))
+
+  -- Elements.
+
+  pub in-left : {a : X} {xs : List X} (ys : List X) → a ∈ xs → a ∈ (xs ++ ys)
+  in-left ys _∈_.first = _∈_.first
+  in-left ys (_∈_.later h) = _∈_.later (in-left ys h)
+
+  pub in-right : {a : X} (xs : List X) {ys : List X} → a ∈ ys → a ∈ (xs ++ ys)
+  in-right [] h = h
+  in-right (x ∷ xs) h = _∈_.later (in-right xs h)
+
+  pub in-append : {a : X} (xs ys : List X) → a ∈ (xs ++ ys) → (a ∈ xs) ⊎ (a ∈ ys)
+  in-append [] ys h = inr h
+  in-append (x ∷ xs) ys _∈_.first = inl _∈_.first
+  in-append (x ∷ xs) ys (_∈_.later h) = ⊎-elim (λ l. inl (_∈_.later l)) inr (in-append xs ys h)

@@ -1,6 +1,7 @@
 -- Marking, shortest first, what is no sum of those marked before: the marked ones are a minimum basis.
 use mathlib.Core.Path.{_≡_, _∙_}
 use mathlib.Core.List.{List, [], _∷_, _++_}
+use mathlib.Core.HLevel.{dec→stable}
 use Prim.Native.Nat.{ℕ, zero, suc, _<_, _≤_}
 use native.Mathlib.Omega.{arith}
 use native.Mathlib.Decide.{decLt}
@@ -177,13 +178,9 @@ module _ {X : Type 0} (G : Space X) (ℓ : X → ℕ) (W : X → Type 0) where
   -- As many independent elements as a basis has: nothing of length k or more is relevant.
   pub full-stops : {k : ℕ} {S B : List X} {x : X}
       → Indep G S → SpansShort G ℓ W k S → Basis G W B → length S ≡ length B → Relevant G ℓ W x → ℓ x < k
-  full-stops {k} {S} {x} i h b e r = go (decLt (ℓ x) k)
+  full-stops {k} {S} {x} i h b e r = dec→stable (decLt (ℓ x) k) (λ n. r .alone (short-mono G ℓ W (omega arith) short))
     where
       short : Short G ℓ W k x
       short =
           span-short G ℓ W (h .inside)
           (fills G i (all-map (λ w p. spanned G (b .spans) w (p .0)) (h .inside)) e (spanned G (b .spans) x (r .inside)))
-
-      go : Dec (ℓ x < k) → ℓ x < k
-      go (yes p) = p
-      go (no n) = absurd (r .alone (short-mono G ℓ W (omega arith) short))

@@ -1,5 +1,6 @@
 -- A minimum basis is graded. An element is in a minimum basis exactly if the shorter members of one do not span it.
 use mathlib.Core.List.{List, [], _∷_, _++_}
+use mathlib.Core.HLevel.{dec→stable}
 use Prim.Native.Nat.{ℕ, _+_, _<_, _≤_}
 use native.Mathlib.Omega.{arith}
 use Rattle.spans.specs.Group.{Space}
@@ -60,11 +61,10 @@ module _ {X : Type 0} (G : Space X) (ℓ : X → ℕ) (W : X → Type 0) where
       let r = replaced k b w n in (s ∷ r .others, r .basis, omega (arith, r .long, total-perm ℓ (r .perm)))
 
   pub minimum-graded : {B : List X} → Minimum G ℓ W B → Graded G ℓ W B
-  minimum-graded {B} m = record { spans = λ k. spans G (λ s w. by-cases k s (w .0) (w .1) (span-dec G (below ℓ k B) s)) }
+  minimum-graded {B} m = record { spans = λ k. spans G (λ s w. dec→stable (span-dec G (below ℓ k B) s) (not-unspanned k s (w .0) (w .1))) }
     where
-      by-cases : (k : ℕ) (s : X) → W s → ℓ s < k → Dec (Span G (below ℓ k B) s) → Span G (below ℓ k B) s
-      by-cases k s w h (yes t) = t
-      by-cases k s w h (no n) = let (C, b, l) = shorter-basis k (m .basis) w h n in absurd (omega (arith, m .least C b))
+      not-unspanned : (k : ℕ) (s : X) → W s → ℓ s < k → ¬ ¬ Span G (below ℓ k B) s
+      not-unspanned k s w h n = let (C, b, l) = shorter-basis k (m .basis) w h n in omega (arith, m .least C b)
 
   -- An element that the shorter members of a minimum basis do not span is in a minimum basis.
   pub relevant-in : {B : List X} (x : X) → Minimum G ℓ W B → W x → ¬ Span G (below ℓ (ℓ x) B) x → (R : List X) × Minimum G ℓ W (x ∷ R)

@@ -9,14 +9,13 @@ use Rattle.spans.specs.Group.{Space}
 use Rattle.spans.specs.Basis.{All, Holding, Basis}
 use Rattle.spans.specs.Graded.{keep-if, below, Graded, Minimum}
 use Rattle.spans.proofs.Lists.{part-all, all-and, Perm, perm-sym, perm-front}
-use Rattle.spans.proofs.Sift.{Sift, sift-step, sift-part, sift-all, sift}
+use Rattle.spans.proofs.Sift.{Sift, sift-step, sift-part, sift-all}
 use Rattle.spans.proofs.Span.{through, span-perm}
 use Rattle.spans.proofs.Indep.{indep-perm, span-over, indep-over}
 use Rattle.spans.proofs.Steinitz.{spanned}
-use Rattle.spans.proofs.Interchange.{Swap}
 use Rattle.spans.proofs.Graded.{split, below-indep, below-inside}
 use Rattle.spans.proofs.Minimum.{minimum-graded}
-use Rattle.spans.proofs.Classes.{Level, level-same-length, level-narrow, same-count}
+use Rattle.spans.proofs.Classes.{Level, level-same-length, level-narrow}
 use Rattle.spans.proofs.Labelled.{Labelled, its, within}
 use Rattle.spans.proofs.Labels.{HasLabel, label-count}
 
@@ -69,12 +68,6 @@ module _ {X : Type 0} (G : Space X) (ℓ : X → ℕ) (W : X → Type 0) (k : �
         indep = indep-over G (λ v s. through G (below-inside G ℓ W gc b k) s) (exact ℓ k C) (below-indep G ℓ W b k) (l .indep);
         covers = λ x p. span-over G (λ v s. through G (below-inside G ℓ W gb c k) s) (exact ℓ k C) (l .covers x p);
       }
-
-  pub same-in-class : (B C : List X) → Basis G W B → Graded G ℓ W B → Basis G W C → Graded G ℓ W C
-      → (K : X → Type 0) (dec : (x : X) → Dec (K x)) → ((x y : X) → Of ℓ W k x → Of ℓ W k y → K x → Swap G (Of ℓ W k) (below ℓ k B) x y → K y)
-      → length (sift K dec (exact ℓ k B)) ≡ length (sift K dec (exact ℓ k C))
-  same-in-class B C b gb c gc K dec closed =
-      same-count G (Of ℓ W k) (below ℓ k B) K dec closed (exact ℓ k B) (exact ℓ k C) (own-level B b gb) (level B C b gb c gc)
 
 module _ {X : Type 0} (G : Space X) (ℓ : X → ℕ) (W : X → Type 0) where
   -- All minimum bases have the same number of members of each length.

@@ -6,15 +6,15 @@ use native.Mathlib.Omega.{arith}
 use native.Mathlib.Decide.{ℕ-discrete}
 use lib.ListN.{length, length-append}
 use Rattle.spans.specs.Group.{Space}
-use Rattle.spans.specs.Basis.{Part, All, Sum, Basis}
+use Rattle.spans.specs.Basis.{All, Sum, Basis}
 use Rattle.spans.specs.Graded.{keep-if, total, below, Minimum}
 use Rattle.spans.proofs.Xor.{xor}
-use Rattle.spans.proofs.Lists.{all-head, all-tail, part-all, part-append, all-map, all-and, all-append, all-left, all-right, all-perm}
-use Rattle.spans.proofs.Lists.{Perm, perm-sym, perm-front, perm-left, perm-right, perm-blocks, Pick, pick-perm, all-pick}
+use Rattle.spans.proofs.Lists.{all-head, all-tail, part-all, all-map, all-and, all-append, all-left, all-right, all-perm}
+use Rattle.spans.proofs.Lists.{Perm, perm-sym, perm-front, perm-left, perm-right, perm-blocks, pick-perm, all-pick}
 use Rattle.spans.proofs.Span.{Span, at, add, sum-in, through, own, own-part, left-of, right-of, span-perm, uses}
-use Rattle.spans.proofs.Indep.{Indep, indep-fresh, span-over, indep-over, first, indep-part, indep-perm, indep-right, Extended, extend}
+use Rattle.spans.proofs.Indep.{Indep, indep-fresh, span-over, indep-over, first, indep-perm, indep-right, Extended, extend}
 use Rattle.spans.proofs.Steinitz.{steinitz, spanned}
-use Rattle.spans.proofs.Interchange.{Swap, swap-used, swap-up-to}
+use Rattle.spans.proofs.Interchange.{Swap, swap-up-to}
 use Rattle.spans.proofs.Graded.{split, split-part, split-low, split-long, total-perm}
 use Rattle.spans.proofs.Minimum.{basis, basis-indep, basis-perm, basis-swap, minimum-graded}
 use Rattle.spans.proofs.Classes.{Level}
@@ -73,10 +73,6 @@ module _ {X : Type 0} (G : Space X) where
   open Space G using (_⊕_, assoc)
 
   module _ {P : X → Type 0} {S : List X} where
-    -- x stands for each element of its expansion.
-    pub expansion-swap : {M U R : List X} {x u : X} → All P M → Indep G (M ++ S) → Part M U → Span G S (x ⊕ Sum G U) → Pick U u R → Swap G P S x u
-    expansion-swap {U} a i p s q = all-pick q (swap-used G P S U (part-all p a) (indep-part G (part-append S p) i) s)
-
     -- x stands for y if y and the others span it, and the others alone do not.
     pub exchange-swap : (E : List X) {x y : X} → All P E → Indep G (y ∷ (E ++ S)) → ¬ Span G (E ++ S) x → Span G (y ∷ (E ++ S)) x → Swap G P S x y
     unfolding Sum

@@ -1,16 +1,15 @@
 -- Sums of elements shorter than k, and the elements that are no sum of shorter ones: they are those of the minimum bases.
-use mathlib.Core.Path.{_≡_, refl, sym, _∙_, ap, subst}
+use mathlib.Core.Path.{_≡_, refl, sym, _∙_, ap}
 use mathlib.Core.List.{List, [], _∷_, _++_}
 use Prim.Native.Nat.{ℕ, _<_, _≤_}
 use native.Mathlib.Omega.{arith}
 use Rattle.spans.specs.Group.{Space}
-use Rattle.spans.specs.Basis.{All, Sum, Basis, Subgroup}
+use Rattle.spans.specs.Basis.{All, Sum, Basis}
 use Rattle.spans.specs.Graded.{below, Graded, Minimum}
 use Rattle.spans.proofs.Xor.{right}
 use Rattle.spans.proofs.Lists.{pick-middle, all-picks, part-all, all-map, all-and, all-append, all-pick, Perm, Pick}
-use Rattle.spans.proofs.Span.{Span, at, through, to-part}
-use Rattle.spans.proofs.Span.{sum-in}
-use Rattle.spans.proofs.Steinitz.{spanned, span-inside}
+use Rattle.spans.proofs.Span.{Span, at, through, to-part, sum-in}
+use Rattle.spans.proofs.Steinitz.{spanned}
 use Rattle.spans.proofs.Graded.{split, split-part, split-low, total-perm}
 use Rattle.spans.proofs.Minimum.{basis-perm, minimum-graded, relevant-in, in-relevant}
 
@@ -42,11 +41,6 @@ module _ {X : Type 0} (G : Space X) (ℓ : X → ℕ) (W : X → Type 0) where
     pub inside : All (λ w. W w × (ℓ w < k)) S
     pub spans : (v : X) → Short k v → Span G S v
 
-  -- Zero is the empty sum.
-  pub short-zero : (k : ℕ) → Short k o
-  unfolding Sum
-  short-zero k = record { parts = []; short = All.nil; sum = refl }
-
   -- An element of W shorter than k.
   pub short-one : {k : ℕ} {w : X} → W w → ℓ w < k → Short k w
   unfolding Sum
@@ -68,10 +62,6 @@ module _ {X : Type 0} (G : Space X) (ℓ : X → ℕ) (W : X → Type 0) where
   -- The same for an equal element.
   pub short-at : {k : ℕ} {v w : X} → v ≡ w → Short k v → Short k w
   short-at e s = record { parts = s .parts; short = s .short; sum = s .sum ∙ e }
-
-  -- They lie in W.
-  pub short-inside : {k : ℕ} {v : X} → Subgroup G W → Short k v → W v
-  short-inside g s = subst W (s .sum) (span-inside G g (all-map (λ w p. p .0) (s .short)) (sum-in G (s .parts)))
 
   -- What is spanned by elements of W shorter than k.
   pub span-short : {k : ℕ} {S : List X} {v : X} → All (λ w. W w × (ℓ w < k)) S → Span G S v → Short k v

@@ -1,6 +1,7 @@
 -- Steinitz: an independent list in the span of ys is no longer than ys. So two bases of one space are equally long.
 use mathlib.Core.Path.{_≡_, refl, sym, ap, subst}
 use mathlib.Core.List.{List, [], _∷_, _++_}
+use mathlib.Core.HLevel.{dec→stable}
 use Prim.Native.Nat.{suc, _+_, _≤_}
 use native.Mathlib.Omega.{arith}
 use native.Mathlib.Nat.{le-antisymm}
@@ -62,11 +63,7 @@ module _ {X : Type 0} (G : Space X) where
 
   -- An independent list inside the span of ys and as long as ys spans all that ys spans.
   pub fills : {xs ys : List X} {v : X} → Indep G xs → All (Span G ys) xs → length xs ≡ length ys → Span G ys v → Span G xs v
-  fills {xs} {ys} {v} i a e s = by-cases (span-dec G xs v)
-    where
-      by-cases : Dec (Span G xs v) → Span G xs v
-      by-cases (yes t) = t
-      by-cases (no n) = absurd (let h = steinitz (Indep.more n i) (All.cons s a) in omega arith)
+  fills {xs} {ys} {v} i a e s = dec→stable (span-dec G xs v) (λ n. let h = steinitz (Indep.more n i) (All.cons s a) in omega arith)
 
   -- The reader's spanning, both ways.
   pub spanned : {W : X → Type 0} {B : List X} → Spans G W B → (s : X) → W s → Span G B s

@@ -2,7 +2,7 @@
 use mathlib.Core.Path.{refl, sym, _∙_}
 use native.Mathlib.Omega.{arith}
 use Rattle.bondset.specs.Sets.{value}
-use Rattle.ledger.specs.Held.{familyOf}
+use Rattle.rows.specs.Values.{familyOf}
 use Rattle.ledger.proofs.Entered.{room-fits}
 use Rattle.candidates.proofs.Kept.{added-few, attempt-none, attempt-kept}
 use borrow.Author.Needs.{needs}

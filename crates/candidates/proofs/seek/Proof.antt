@@ -8,7 +8,7 @@ use lib.ListN.{length, getD}
 use Rattle.bondset.proofs.Laws.{trailing, pos-of-ne}
 use Rattle.cycles.specs.Family.{Family}
 use Rattle.model.specs.Loops.{fam}
-use Rattle.model.proofs.ItemsFound.{found}
+use Rattle.model.specs.Candidates.{found}
 use Rattle.candidates.specs.Cursor.{ahead, Stood}
 use Rattle.candidates.specs.Engine.{attempted}
 use Rattle.candidates.specs.Going.{graph}

@@ -3,7 +3,7 @@ use mathlib.Core.Path.{_∙_}
 use native.Mathlib.Omega.{arith}
 use borrow.Author.Needs.{needs}
 use Rattle.model.specs.Net.{preceding}
-use Rattle.compound.proofs.Same.{tops-same}
+use Rattle.atoms.proofs.Same.{tops-same}
 use Rattle.candidates.specs.Going.{graph}
 use Rattle.engine.proofs.Accepted.{accepted-atoms, accepted-bonds}
 use Rattle.engine.proofs.Reporting.{run-reports}

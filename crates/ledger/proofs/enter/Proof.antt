@@ -1,7 +1,8 @@
 -- A sum of marked rings, or one more of them.
 use mathlib.Core.Path.{refl, sym, _∙_}
 use Rattle.bondset.specs.Sets.{value}
-use Rattle.ledger.specs.Held.{familyOf, ledgerOf}
+use Rattle.rows.specs.Values.{familyOf}
+use Rattle.ledger.specs.Held.{ledgerOf}
 use Rattle.ledger.proofs.Entered.{entered-sum, entered-mark, entered-none, room-fits, sized-still}
 use Rattle.ledger.proofs.enter.Statement.{statement}
 use Rattle.ledger.proofs.enter.Tie as tie

@@ -3,7 +3,8 @@ use native.Mathlib.Nat.{lt-trans}
 use lib.Dec.{lit<}
 use lib.ListN.{length-set}
 use Rattle.bondset.specs.Sets.{value}
-use Rattle.ledger.specs.Held.{familyOf, ledgerOf}
+use Rattle.rows.specs.Values.{familyOf}
+use Rattle.ledger.specs.Held.{ledgerOf}
 use Rattle.ledger.proofs.Entered.{mark-is, mark-fit, room-more}
 use borrow.Author.Needs.{needs}
 use Rattle.ledger.proofs.mark.Statement.{statement}

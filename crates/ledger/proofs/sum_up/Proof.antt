@@ -1,6 +1,7 @@
 -- One more family of a class, or of several that are joined.
 use Rattle.bondset.specs.Sets.{value}
-use Rattle.ledger.specs.Held.{familyOf, ledgerOf}
+use Rattle.rows.specs.Values.{familyOf}
+use Rattle.ledger.specs.Held.{ledgerOf}
 use Rattle.ledger.proofs.Entered.{sum-is, sum-fit, lowest-byte}
 use Rattle.ledger.proofs.sum_up.Statement.{statement}
 use Rattle.ledger.proofs.sum_up.Tie as tie

@@ -30,8 +30,8 @@ write-commas-requires : tie.Need-write-commas-requires
 write-commas-requires c κs =
     omega (arith, decimal-word (c .before .before .before .before .before .before .before .before .before .before .before .before .before .args .class) (omega arith))
 
-families-of-requires : tie.Need-families-of-requires
-families-of-requires c κs = search needs
+family-count-requires : tie.Need-family-count-requires
+family-count-requires c κs = search needs
 
 write-ended-requires-2 : tie.Need-write-ended-requires-2
 write-ended-requires-2 c κs =
@@ -51,7 +51,7 @@ write-ended-requires-2 c κs =
       d .write-commas .ensures .1,
       d .write-commas .kept .1 .0,
       length-take 2 (s .args .row .now),
-      decimal-length 4 (f .families-of .result) (omega (arith, f .families-of .ensures .1)),
+      decimal-length 4 (f .family-count .result) (omega (arith, f .family-count .ensures .1)),
     )
 
 shared-slice-read-wide : tie.Need-shared-slice-read-wide
@@ -80,7 +80,7 @@ write-ended-requires-3 c κs =
       d .write-commas .ensures .1,
       d .write-commas .kept .1 .0,
       length-take 2 (s .args .row .now),
-      decimal-length 4 (f .families-of .result) (omega (arith, f .families-of .ensures .1)),
+      decimal-length 4 (f .family-count .result) (omega (arith, f .family-count .ensures .1)),
       e .write-ended2 .ensures .1,
       e .write-ended2 .kept .1 .1 .0,
       decimal-byte (c .before .wide .result) mark,
@@ -99,7 +99,7 @@ returns c =
     let a = b .before .before .before .before in
     let s = a .before .before .before .before .before in
     let mark : w .wide .result ≤ 255 = omega (arith, w .wide .ensures, w .before .shared-slice-known2 .given 4) in (
-      wrote-as (class-pieces (s .args .class) (s .args .row .now) _ _ (s .pre .0) (f .families-of .ensures .0) (w .wide .ensures))
+      wrote-as (class-pieces (s .args .class) (s .args .row .now) _ _ (s .pre .0) (f .family-count .ensures .0) (w .wide .ensures))
           (wrote-then (a .write-word .ensures)
           (wrote-then (b .write-ended .ensures .0)
           (wrote-then (d .write-commas .ensures .0) (wrote-then (e .write-ended2 .ensures .0) (c .before .before .write-ended3 .ensures .0))))),
@@ -114,7 +114,7 @@ returns c =
         d .write-commas .ensures .1,
         d .write-commas .kept .1 .0,
         length-take 2 (s .args .row .now),
-        decimal-length 4 (f .families-of .result) (omega (arith, f .families-of .ensures .1)),
+        decimal-length 4 (f .family-count .result) (omega (arith, f .family-count .ensures .1)),
         e .write-ended2 .ensures .1,
         decimal-byte (w .wide .result) mark,
         c .before .before .write-ended3 .ensures .1,
@@ -132,7 +132,7 @@ write-class-spec =
     part-write-commas-start
     part-write-commas-end
     write-commas-requires
-    families-of-requires
+    family-count-requires
     write-ended-requires-2
     shared-slice-read-wide
     wide-requires

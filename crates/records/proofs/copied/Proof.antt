@@ -48,7 +48,7 @@ use denote.Triple.Spec.{Meets, tripleOf}
 use denote.Triple.Statement.{Contract, Triple}
 use denote.Triple.Table.{entered, cited}
 use denote.Triple.Walked.{says, Stays, stay-dropped, walkOf, goes-dropped, Walks, ends-at, walked, walk-meets}
-use Rattle.records.specs.Records.{laid, bytesOf}
+use Rattle.records.specs.Records.{laid, lentBytes}
 use Rattle.records.specs.declared.Bond.{Bond}
 use Rattle.records.proofs.Arrays.{word, slice, Bytes, bytes, bytesVal, AreBytes, bytes-tell, bytes-told, bytes-zeros, apart, together}
 use Rattle.records.proofs.Copying.{noBond, putAt, laid-none, length-laid, put-laid, ends}
@@ -87,17 +87,17 @@ module _ {M : Type 1} (𝓤 : URA M) (H : Heap 𝓤) (A : Atoms 𝓤) (mem : Mem
     asks-lent m g =
         qed W [] ∵ nothing ! $ nothing ! $ owned ! usize (Is usize) (uint-makes 𝓤 H A W w64) m _ (refl, g) $ fjoin ! $ move ! (1 ∷ 0 ∷ []) $ join ! $ frame ! $ done !
 
-    gives-lent : (m : ℕ) (v : Val) → ent 𝓤 (Lent .post (to-lent m) v) (H .⇛ (fact 𝓤 (Is usize (bytesOf m) (v ∷ []))))
+    gives-lent : (m : ℕ) (v : Val) → ent 𝓤 (Lent .post (to-lent m) v) (H .⇛ (fact 𝓤 (Is usize (lentBytes m) (v ∷ []))))
     gives-lent m v =
-        result-is 𝓤 H A W usize v (emp 𝓤) _ (bytesOf m) (λ r. exE 𝓤 _ (λ ws.
-        via 𝓤 _ (snd∗ 𝓤 (sem 𝓤 H A (lasts lent.ended tt (m, tt) ws)) (sep 𝓤 (fact 𝓤 (r ≡ bytesOf m)) (fact 𝓤 (r ≤ 192)))) (fst∗ 𝓤 (fact 𝓤 (r ≡ bytesOf m)) (fact 𝓤 (r ≤ 192)))))
+        result-is 𝓤 H A W usize v (emp 𝓤) _ (lentBytes m) (λ r. exE 𝓤 _ (λ ws.
+        via 𝓤 _ (snd∗ 𝓤 (sem 𝓤 H A (lasts lent.ended tt (m, tt) ws)) (sep 𝓤 (fact 𝓤 (r ≡ lentBytes m)) (fact 𝓤 (r ≤ 192)))) (fst∗ 𝓤 (fact 𝓤 (r ≡ lentBytes m)) (fact 𝓤 (r ≤ 192)))))
 
 module _ {M : Type 1} (𝓤 : URA M) (H : Heap 𝓤) (A : Atoms 𝓤) (W : Given 𝓤 H A) (mem : Memory → SProp 𝓤) (run : Routine → Fun 𝓤) (κ : Lft) (q : Share) (b o : ℕ) (γ : GName) (ys : List Bond) where
   abbrev m : ℕ
   m = length ys
 
   abbrev len : ℕ
-  len = bytesOf m
+  len = lentBytes m
 
   abbrev end : ℕ
   end = len / 2

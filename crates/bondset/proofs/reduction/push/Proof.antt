@@ -5,7 +5,8 @@ use lib.Count.{trailing-le}
 use lib.ListN.{set}
 use borrow.Author.Needs.{needs}
 use Rattle.bondset.specs.Sets.{value}
-use Rattle.bondset.specs.Reduction.{putRow, pushedTag, pivotOf}
+use Rattle.bondset.specs.Rows.{putRow}
+use Rattle.bondset.specs.Reduction.{pushedTag, pivotOf}
 use Rattle.bondset.proofs.reduction.push.Statement.{statement}
 use Rattle.bondset.proofs.reduction.push.Tie as tie
 

@@ -6,7 +6,7 @@ use Rattle.bondset.proofs.Laws.{pos-of-ne}
 use Rattle.bondset.proofs.Members.{and-pred-lt}
 use Rattle.model.specs.Net.{preceding}
 use Rattle.model.specs.Loops.{running, topLoop}
-use Rattle.compound.proofs.Loops.{Over, over-start, over-end}
+use Rattle.atoms.proofs.Loops.{Over, over-start, over-end}
 use Rattle.ledger.specs.Held.{Sized, Fit}
 use Rattle.candidates.specs.Engine.{attempted}
 use Rattle.candidates.specs.Going.{graph, engineOf}

@@ -4,7 +4,7 @@ use Prim.Native.Nat.{_-_, _≤_}
 use native.Mathlib.Omega.{arith}
 use lib.ListN.{length}
 use Rattle.model.specs.Loops.{running}
-use Rattle.compound.proofs.Loops.{Upto, upto-start, upto-end}
+use Rattle.atoms.proofs.Loops.{Upto, upto-start, upto-end}
 use Rattle.ledger.specs.Held.{Sized, Fit}
 use Rattle.engine.specs.Lengths.{roundBy}
 use Rattle.candidates.specs.Going.{graph, engineOf}

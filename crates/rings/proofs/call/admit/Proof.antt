@@ -8,7 +8,7 @@ use lib.ListN.{length, length-replicate}
 use Rattle.bondset.proofs.Laws.{pos-of-ne}
 use Rattle.cycles.specs.Compound.{Compound}
 use Rattle.cycles.specs.Refusal.{WrongAtoms}
-use Rattle.compound.specs.Nets.{compound}
+use Rattle.reading.specs.Reading.{compound}
 use Rattle.rings.specs.Calls.{standing, refusing}
 use Rattle.rings.proofs.Grounding.{Within, refused-atoms, refused-bytes, refused-no-atom, refused-loop, refused-again, refused-pieces, stands}
 use Rattle.rings.proofs.call.admit.Statement.{statement}

@@ -1,0 +1,2 @@
+-- The definitions that the contracts of `atoms` cite.
+pub mod Nets

@@ -1,4 +1,0 @@
-pub mod Nets
-pub mod Reading
-pub mod Search
-pub mod Queue

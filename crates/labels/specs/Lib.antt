@@ -1,0 +1,2 @@
+-- The definitions that the contracts of `labels` cite.
+pub mod Labelled
