@@ -64,3 +64,7 @@ module _ (n : ℕ) (bonds rows classRows : List ℕ) (i : ℕ) where
         → R .rings ≤ most
         → Answered (full (R .cyclomatic) (R .families) (R .classes) (R .total) (R .rings) (sizeOf (R .rows) i))
         (over (familyBytes (R .rows)) rows) (over (classBytes (R .classRows)) classRows)
+
+-- The claim of the first call, which is asked for no row: whatever the row number, it tells what the second call tells, with some size.
+abbrev pub AnsweredFirst : (n : ℕ) → (bonds rows classRows : List ℕ) → (ℕ → Told) → (left left′ : List ℕ) → Type 0
+AnsweredFirst n bonds rows classRows tell left left′ = (i : ℕ) → (size : ℕ) × Answered n bonds rows classRows i (tell size) left left′

@@ -16,7 +16,7 @@ ghost use Rattle.candidates.specs.Going.{graph, Place, Tries};
 use bondset::reduction::Reduced;
 use counting::Count;
 use ledger::Tally;
-use rows::Spot;
+use rows::Family;
 
 /// The cursor that passes the candidates.
 pub mod cursor;
@@ -63,7 +63,7 @@ fn attempt(
     sizes: &mut [u64],
     from: usize,
     d: usize,
-    f: Spot,
+    f: Family,
     s: Going,
 ) -> Going
     requires { ⌜ Place (now adj) (now touch) (now layers) (now counts) d ⌝ }
@@ -135,7 +135,7 @@ pub fn seek(
     let mut going = s;
     while at.qs != 0 {
         let q = atoms::lowest(at.qs);
-        let f = Spot {
+        let f = Family {
             k,
             r,
             p: at.p,

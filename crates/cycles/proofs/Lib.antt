@@ -15,6 +15,7 @@ pub mod MembersCorners
 pub mod MembersAround
 pub mod Members
 pub mod Dimension
+pub mod Pieces
 pub mod Exists
 pub mod Few
 pub mod Bases

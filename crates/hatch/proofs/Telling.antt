@@ -2,7 +2,7 @@
 use mathlib.Core.Path.{_≡_, refl, sym, ap, _∙_, subst}
 use mathlib.Core.List.{List}
 use Prim.Native.Nat.{ℕ}
-use Rattle.answers.specs.Answered.{Told, Answered}
+use Rattle.answers.specs.Answered.{Told, Answered, AnsweredFirst}
 use Rattle.hatch.specs.declared.Reply.{Reply}
 use Rattle.rings.specs.Calls.{told}
 use Rattle.rings.specs.declared.Answer.{Answer}
@@ -49,8 +49,8 @@ answered-as {n} {i} {bonds} {rows} {classRows} {rows′} {classRows′} e = subs
 
 -- What a call on an answer ensures of the reply that is made of it: without a size, and with one.
 module _ {n : ℕ} {bonds rows classRows rows′ classRows′ : List ℕ} (a : Answer) {r : Reply} where
-  pub families-told : r ≡ replyOf (told a 0) → ((i : ℕ) → (size : ℕ) × Answered n bonds rows classRows i (told a size) rows′ classRows′)
-      → ((i : ℕ) → (size : ℕ) × Answered n bonds rows classRows i (withSize (toldBy r) size) rows′ classRows′) × (r ≡ replyOf (withSize (toldBy r) 0))
+  pub families-told : r ≡ replyOf (told a 0) → AnsweredFirst n bonds rows classRows (told a) rows′ classRows′
+      → AnsweredFirst n bonds rows classRows (withSize (toldBy r)) rows′ classRows′ × (r ≡ replyOf (withSize (toldBy r) 0))
   families-told made claim = (
     λ i. (claim i .0, answered-as (withSize-made a 0 made (claim i .0)) (claim i .1)),
     made ∙ ap replyOf (sym (withSize-made a 0 made 0)),

@@ -2,7 +2,7 @@
 use mathlib.Core.Path.{_≡_, refl, sym, ap, _∙_}
 use mathlib.Core.List.{List}
 use Prim.Native.Nat.{ℕ}
-use Rattle.answers.specs.Answered.{Told, full, refused, Answered}
+use Rattle.answers.specs.Answered.{Told, full, refused, Answered, AnsweredFirst}
 use Rattle.answers.proofs.Unique.{answered-unique}
 use Rattle.hatch.specs.declared.Reply.{Reply}
 use Rattle.hatch.specs.Replies.{toldBy, replyOf, withSize}
@@ -15,8 +15,8 @@ withSize-last (refused number at) size other = refl
 module _ (n : ℕ) (bonds rows classRows : List ℕ) {left left′ other other′ : List ℕ} where
   -- What a call without a row number promises.
   pub families-reply-unique : (r s : Reply)
-      → ((i : ℕ) → (size : ℕ) × Answered n bonds rows classRows i (withSize (toldBy r) size) left left′) → r ≡ replyOf (withSize (toldBy r) 0)
-      → ((i : ℕ) → (size : ℕ) × Answered n bonds rows classRows i (withSize (toldBy s) size) other other′) → s ≡ replyOf (withSize (toldBy s) 0)
+      → AnsweredFirst n bonds rows classRows (withSize (toldBy r)) left left′ → r ≡ replyOf (withSize (toldBy r) 0)
+      → AnsweredFirst n bonds rows classRows (withSize (toldBy s)) other other′ → s ≡ replyOf (withSize (toldBy s) 0)
       → (r ≡ s) × (left ≡ other) × (left′ ≡ other′)
   families-reply-unique r s p plain q plain′ =
       let (e, l, l′) = answered-unique n bonds rows classRows 0 (p 0 .1) (q 0 .1) in

@@ -1,9 +1,8 @@
 //! The engine's calls for C and Rust, with bonds lent as bytes or as records. A slice passes as a pointer and a length. No call
 //! asks anything of its caller.
 ghost use mathlib.Core.Path.{_≡_};
-ghost use Prim.Native.Nat.{ℕ};
 ghost use lib.ListN.{take};
-ghost use Rattle.answers.specs.Answered.{Answered};
+ghost use Rattle.answers.specs.Answered.{Answered, AnsweredFirst};
 ghost use Rattle.rings.specs.Calls.{told};
 ghost use Rattle.records.specs.Records.{flattened, lentBytes};
 ghost use Rattle.hatch.specs.Replies.{toldBy, replyOf, withSize};
@@ -76,8 +75,8 @@ pub extern "C" fn rings_families(
     family_rows: &mut [u8],
     class_rows: &mut [u8],
 ) -> Reply
-    ensures answered { λ r. ⌜ ((i : ℕ) → (size : ℕ) × Answered n (now (bonds .entry)) (now («family_rows» .entry)) (now («class_rows» .entry)) i
-        (withSize (toldBy r) size) (now («family_rows» .exit)) (now («class_rows» .exit))) ⌝ }
+    ensures answered { λ r. ⌜ AnsweredFirst n (now (bonds .entry)) (now («family_rows» .entry)) (now («class_rows» .entry)) (withSize (toldBy r))
+        (now («family_rows» .exit)) (now («class_rows» .exit)) ⌝ }
     ensures plain { λ r. ⌜ r ≡ replyOf (withSize (toldBy r) 0) ⌝ }
 {
     let answer = rings::families(n, bonds, family_rows, class_rows);
@@ -110,8 +109,8 @@ fn families_copied(
     family_rows: &mut [u8],
     class_rows: &mut [u8],
 ) -> Reply
-    ensures answered { λ r. ⌜ ((i : ℕ) → (size : ℕ) × Answered n (take (lentBytes count) all) (now («family_rows» .entry)) (now («class_rows» .entry)) i
-        (withSize (toldBy r) size) (now («family_rows» .exit)) (now («class_rows» .exit))) ⌝ }
+    ensures answered { λ r. ⌜ AnsweredFirst n (take (lentBytes count) all) (now («family_rows» .entry)) (now («class_rows» .entry)) (withSize (toldBy r))
+        (now («family_rows» .exit)) (now («class_rows» .exit)) ⌝ }
     ensures plain { λ r. ⌜ r ≡ replyOf (withSize (toldBy r) 0) ⌝ }
 {
     let found = records::families_copied(n, count, all, family_rows, class_rows);
@@ -144,8 +143,8 @@ pub extern "C" fn rings_families_of(
     family_rows: &mut [u8],
     class_rows: &mut [u8],
 ) -> Reply
-    ensures answered { λ r. ⌜ ((i : ℕ) → (size : ℕ) × Answered n (flattened (now (bonds .entry))) (now («family_rows» .entry)) (now («class_rows» .entry)) i
-        (withSize (toldBy r) size) (now («family_rows» .exit)) (now («class_rows» .exit))) ⌝ }
+    ensures answered { λ r. ⌜ AnsweredFirst n (flattened (now (bonds .entry))) (now («family_rows» .entry)) (now («class_rows» .entry)) (withSize (toldBy r))
+        (now («family_rows» .exit)) (now («class_rows» .exit)) ⌝ }
     ensures plain { λ r. ⌜ r ≡ replyOf (withSize (toldBy r) 0) ⌝ }
 {
     let all = records::copied(bonds);

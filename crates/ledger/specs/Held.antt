@@ -4,7 +4,7 @@ use mathlib.Core.List.{List}
 use Prim.Native.Nat.{ℕ, _+_, _*_, _%_, _^_, _≤_}
 use lib.ListN.{length, getD, set}
 use Rattle.labels.specs.Labelled.{Labelled}
-use Rattle.rows.specs.declared.Spot.{Spot}
+use Rattle.rows.specs.declared.Family as code
 use Rattle.rows.specs.Values.{familyOf}
 use Rattle.ledger.specs.declared.Tally.{Tally}
 use Rattle.ledger.specs.Ledger.{Ledger, markedIn, summedIn, entered, settledIn}
@@ -48,20 +48,20 @@ abbrev pub held : List ℕ → ℕ → List ℕ
 held holds j = set holds j ((getD holds j 0 + 1) % 2 ^ 64)
 
 -- A kept prototype is marked; the class rows are whatever they are.
-pub record Marks (f : Spot) (rest names : ℕ) (t : Tally) (rows tags pivots labels holds out : List ℕ)
+pub record Marks (f : code.Family) (rest names : ℕ) (t : Tally) (rows tags pivots labels holds out : List ℕ)
     (r : Tally) (rows′ tags′ pivots′ labels′ holds′ out′ : List ℕ) : Type 0 where
   pub is : (table : List ℕ)
       → ledgerOf r rows′ tags′ pivots′ labels′ holds′ out′ table ≡ markedIn (familyOf f) rest names (ledgerOf t rows tags pivots labels holds out table)
   pub fit : Fit labels′ holds′ r
 
 -- A kept prototype is a sum of marked ones; the reduction and the class rows are whatever they are.
-pub record Sums (f : Spot) (s : ℕ) (t : Tally) (labels holds out : List ℕ) (r : Tally) (labels′ holds′ out′ : List ℕ) : Type 0 where
+pub record Sums (f : code.Family) (s : ℕ) (t : Tally) (labels holds out : List ℕ) (r : Tally) (labels′ holds′ out′ : List ℕ) : Type 0 where
   pub is : (rows tags pivots table : List ℕ)
       → ledgerOf r rows tags pivots labels′ holds′ out′ table ≡ summedIn (familyOf f) s (ledgerOf t rows tags pivots labels holds out table)
   pub fit : Fit labels′ holds′ r
 
 -- A kept prototype is entered; the class rows are whatever they are.
-pub record Enters (f : Spot) (rest names : ℕ) (t : Tally) (rows tags pivots labels holds out : List ℕ)
+pub record Enters (f : code.Family) (rest names : ℕ) (t : Tally) (rows tags pivots labels holds out : List ℕ)
     (r : Tally) (rows′ tags′ pivots′ labels′ holds′ out′ : List ℕ) : Type 0 where
   pub is : (table : List ℕ)
       → ledgerOf r rows′ tags′ pivots′ labels′ holds′ out′ table ≡ entered (familyOf f) rest names (ledgerOf t rows tags pivots labels holds out table)

@@ -13,7 +13,7 @@ ghost use Rattle.rows.specs.Values.{Small};
 ghost use Rattle.ledger.specs.Held.{Sized, Fit, held, Marks, Sums, Enters, Settles};
 use bondset::BondSet;
 use bondset::reduction::Reduced;
-use rows::Spot;
+use rows::Family;
 
 /// What has been counted so far.
 pub struct Tally {
@@ -37,7 +37,7 @@ fn mark(
     labels: &mut [u8],
     holds: &mut [u64],
     out: &mut [u8],
-    f: Spot,
+    f: Family,
     v: Reduced,
     t: Tally,
 ) -> Tally
@@ -77,7 +77,7 @@ fn sum_up(
     labels: &mut [u8],
     holds: &mut [u64],
     out: &mut [u8],
-    f: Spot,
+    f: Family,
     s: BondSet,
     t: Tally,
 ) -> Tally
@@ -107,7 +107,7 @@ pub fn enter(
     labels: &mut [u8],
     holds: &mut [u64],
     out: &mut [u8],
-    f: Spot,
+    f: Family,
     v: Reduced,
     t: Tally,
 ) -> Tally

@@ -5,7 +5,7 @@
 ghost use mathlib.Core.Path.{_≡_};
 ghost use Prim.Native.Nat.{ℕ, _/_, _≤_};
 ghost use lib.ListN.{length, take};
-ghost use Rattle.answers.specs.Answered.{refused, Answered};
+ghost use Rattle.answers.specs.Answered.{refused, Answered, AnsweredFirst};
 ghost use Rattle.rings.specs.Calls.{told};
 ghost use Rattle.records.specs.Records.{flattened, laid, lentBytes};
 use rings::Answer;
@@ -54,8 +54,8 @@ pub fn families_copied(
     family_rows: &mut [u8],
     class_rows: &mut [u8],
 ) -> Answer
-    ensures { λ r. ⌜ ((i : ℕ) → (size : ℕ) × Answered n (take (lentBytes count) all) (now («family_rows» .entry)) (now («class_rows» .entry)) i (told r size)
-        (now («family_rows» .exit)) (now («class_rows» .exit))) ⌝ }
+    ensures { λ r. ⌜ AnsweredFirst n (take (lentBytes count) all) (now («family_rows» .entry)) (now («class_rows» .entry)) (told r)
+        (now («family_rows» .exit)) (now («class_rows» .exit)) ⌝ }
 {
     let len = lent(count);
     rings::families(n, &all[..len], family_rows, class_rows)
@@ -85,8 +85,8 @@ pub fn families_of(
     family_rows: &mut [u8],
     class_rows: &mut [u8],
 ) -> Answer
-    ensures { λ r. ⌜ ((i : ℕ) → (size : ℕ) × Answered n (flattened (now (bonds .entry))) (now («family_rows» .entry)) (now («class_rows» .entry)) i (told r size)
-        (now («family_rows» .exit)) (now («class_rows» .exit))) ⌝ }
+    ensures { λ r. ⌜ AnsweredFirst n (flattened (now (bonds .entry))) (now («family_rows» .entry)) (now («class_rows» .entry)) (told r)
+        (now («family_rows» .exit)) (now («class_rows» .exit)) ⌝ }
 {
     let all = copied(bonds);
     families_copied(n, bonds.len(), all, family_rows, class_rows)

@@ -6,7 +6,7 @@ use Prim.Native.Nat.{ℕ, _<_}
 use lib.Dec.{eqb}
 use lib.ListN.{length, getD}
 use lib.Seq.{ext-getD}
-use Rattle.answers.specs.Answered.{Told, full, refused, Answered}
+use Rattle.answers.specs.Answered.{Told, full, refused, Answered, AnsweredFirst}
 use Rattle.answers.proofs.Unique.{answered-unique}
 use Rattle.rings.specs.declared.Answer.{Answer}
 use Rattle.rings.specs.declared.Answer.the-variants.{Full, WrongAtoms, WrongBytes, NoAtom, Loop, Again, Pieces, FewRows, FewClassRows, ManyRings}
@@ -73,8 +73,8 @@ sized a size = record { answer = a; size = size }
 
 module _ (n : ℕ) (bonds rows classRows : List ℕ) {left left′ other other′ : List ℕ} where
   -- What `families` promises leaves one answer and one content of both buffers.
-  pub families-unique : (a b : Answer) → ((i : ℕ) → (size : ℕ) × Answered n bonds rows classRows i (told a size) left left′)
-      → ((i : ℕ) → (size : ℕ) × Answered n bonds rows classRows i (told b size) other other′) → (a ≡ b) × (left ≡ other) × (left′ ≡ other′)
+  pub families-unique : (a b : Answer) → AnsweredFirst n bonds rows classRows (told a) left left′
+      → AnsweredFirst n bonds rows classRows (told b) other other′ → (a ≡ b) × (left ≡ other) × (left′ ≡ other′)
   families-unique a b p q =
       let (e, l, l′) = answered-unique n bonds rows classRows 0 (p 0 .1) (q 0 .1) in
       (told-injective a b (p 0 .0) (q 0 .0) e, l, l′)

@@ -6,7 +6,7 @@ use lib.ListN.{length, getD}
 use Rattle.cycles.specs.Compound.{Compound, cyclomatic}
 use Rattle.cycles.specs.Rows.{most}
 use Rattle.cycles.specs.Refusal as table
-use Rattle.answers.specs.Answered.{Told, full, refused, Answered, familyBytes, classBytes, over, sizeOf, familyRoom, classRoom}
+use Rattle.answers.specs.Answered.{Told, full, refused, Answered, familyBytes, classBytes, over, sizeOf, familyRoom, classRoom, AnsweredFirst}
 use Rattle.model.specs.Run.{report}
 use Rattle.candidates.specs.declared.Going.{Going}
 use Rattle.engine.specs.Reports.{Stands}
@@ -73,6 +73,6 @@ pub record Delivered (c : Compound) (from : ℕ) (rows classRows sizes rows′ c
 
 -- The claim of a call for every row number, with the sizes of the rows from one on; in a refusal the sizes stay as lent.
 pub record Answers (n : ℕ) (bonds : List ℕ) (from : ℕ) (rows classRows sizes : List ℕ) (a : Answer) (rows′ classRows′ sizes′ : List ℕ) : Type 0 where
-  pub answered : (i : ℕ) → (size : ℕ) × Answered n bonds rows classRows i (told a size) rows′ classRows′
+  pub answered : AnsweredFirst n bonds rows classRows (told a) rows′ classRows′
   pub sized : (j : ℕ) → j < length sizes → Answered n bonds rows classRows (from + j) (told a (getD sizes′ j 0)) rows′ classRows′
   pub kept : (number at : ℕ) → told a 0 ≡ refused number at → sizes′ ≡ sizes

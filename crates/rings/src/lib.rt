@@ -8,7 +8,7 @@
 ghost use mathlib.Core.Path.{_≡_};
 ghost use Prim.Native.Nat.{ℕ, _<_};
 ghost use lib.ListN.{length, getD};
-ghost use Rattle.answers.specs.Answered.{refused, Answered};
+ghost use Rattle.answers.specs.Answered.{refused, Answered, AnsweredFirst};
 ghost use Rattle.rings.specs.Calls.{told, refusalIn};
 
 mod call;
@@ -66,8 +66,8 @@ pub struct Sized {
 
 /// The ring families of a compound of `n` atoms, whose bonds are lent as two atom numbers each.
 pub fn families(n: usize, bonds: &[u8], family_rows: &mut [u8], class_rows: &mut [u8]) -> Answer
-    ensures { λ r. ⌜ ((i : ℕ) → (size : ℕ) × Answered n (now (bonds .entry)) (now («family_rows» .entry)) (now («class_rows» .entry)) i (told r size)
-        (now («family_rows» .exit)) (now («class_rows» .exit))) ⌝ }
+    ensures { λ r. ⌜ AnsweredFirst n (now (bonds .entry)) (now («family_rows» .entry)) (now («class_rows» .entry)) (told r)
+        (now («family_rows» .exit)) (now («class_rows» .exit)) ⌝ }
 {
     let mut sizes = [0u64; 1];
     call::answer(n, bonds, 0, family_rows, class_rows, &mut sizes)
@@ -102,8 +102,8 @@ pub fn families_sized(
     class_rows: &mut [u8],
     sizes: &mut [u64],
 ) -> Answer
-    ensures answered { λ r. ⌜ ((i : ℕ) → (size : ℕ) × Answered n (now (bonds .entry)) (now («family_rows» .entry)) (now («class_rows» .entry)) i (told r size)
-        (now («family_rows» .exit)) (now («class_rows» .exit))) ⌝ }
+    ensures answered { λ r. ⌜ AnsweredFirst n (now (bonds .entry)) (now («family_rows» .entry)) (now («class_rows» .entry)) (told r)
+        (now («family_rows» .exit)) (now («class_rows» .exit)) ⌝ }
     ensures sized { λ r. ⌜ ((j : ℕ) → j < length (now (sizes .entry)) → Answered n (now (bonds .entry)) (now («family_rows» .entry)) (now («class_rows» .entry)) j
         (told r (getD (now (sizes .exit)) j 0)) (now («family_rows» .exit)) (now («class_rows» .exit))) ⌝ }
     ensures kept { λ r. ⌜ ((number at : ℕ) → told r 0 ≡ refused number at → now (sizes .exit) ≡ now (sizes .entry)) ⌝ }

@@ -9,11 +9,11 @@ use lib.Seq.{paste}
 use Rattle.cycles.specs.Family.{Family}
 use Rattle.model.specs.Fold.{through, count}
 use Rattle.labels.specs.Labelled.{Labelled}
-use Rattle.rows.specs.declared.Spot.{Spot}
+use Rattle.rows.specs.declared.Family as code
 use Rattle.rows.specs.Rows.{Numbers, classBytes, numberedIn}
 
 -- The family that a spot names.
-abbrev pub familyOf : Spot → Family
+abbrev pub familyOf : code.Family → Family
 familyOf f = record { long = f .k; r = f .r; p = f .p; q = f .q; x = f .x }
 
 -- The labels, the number of classes and the class rows.
@@ -29,7 +29,7 @@ abbrev pub putClass : List ℕ → ℕ → ℕ → ℕ → ℕ → List ℕ
 putClass table c k rank families = cond (ltb c (length table / 5)) (paste table (5 * c) (classBytes k rank families) 5) table
 
 -- A family's numbers are bytes.
-pub record Small (f : Spot) : Type 0 where
+pub record Small (f : code.Family) : Type 0 where
   pub long : f .k ≤ 64
   pub top : f .r < 256
   pub one : f .p < 256

@@ -14,7 +14,7 @@ ghost use Rattle.rows.specs.Rows.{putFamily, moreClass, numberedIn, patc
 ghost use Rattle.rows.specs.Values.{Small, familyOf, essentialMark, putClass, numbersOf, Numbered};
 
 /// A family: its length, its top atom and its atoms p, q, x.
-pub struct Spot {
+pub struct Family {
     /// The length.
     pub k: usize,
     /// The top atom.
@@ -28,7 +28,7 @@ pub struct Spot {
 }
 
 /// Writes family row `i`.
-pub fn put_family(out: &mut [u8], i: usize, f: Spot, mark: u8, class: usize)
+pub fn put_family(out: &mut [u8], i: usize, f: Family, mark: u8, class: usize)
     requires { ⌜ Small f ⌝ }
     requires { ⌜ class < 256 ⌝ }
     ensures { λ _. ⌜ now (out .exit) ≡ putFamily (now (out .entry)) i (familyOf f) mark class ⌝ }

@@ -8,7 +8,7 @@ use contract.Running.{givenOf, tables, tablesOf}
 use denote.Struct.Laws as struct
 use denote.Triple.Spec.{tripleOf}
 use denote.Triple.Table.{entered, cited}
-use Rattle.answers.specs.Answered.{Answered}
+use Rattle.answers.specs.Answered.{AnsweredFirst}
 use Rattle.records.specs.Records.{flattened}
 use Rattle.records.proofs.Front.{meets}
 use Rattle.records.proofs.Handing.{answered-flattened}
@@ -30,7 +30,7 @@ use Rattle.hatch.proofs.rings_families_of.Statement as stated
 use Rattle.hatch.proofs.rings_families_of.Code as code
 
 abbrev Claim : ℕ → List ℕ → List ℕ → List ℕ → Reply → List ℕ → List ℕ → Type 0
-Claim n xs rows classRows r rows′ classRows′ = (i : ℕ) → (size : ℕ) × Answered n xs rows classRows i (withSize (toldBy r) size) rows′ classRows′
+Claim n xs rows classRows r rows′ classRows′ = AnsweredFirst n xs rows classRows (withSize (toldBy r)) rows′ classRows′
 
 abbrev Plain : Reply → Type 0
 Plain r = r ≡ replyOf (withSize (toldBy r) 0)

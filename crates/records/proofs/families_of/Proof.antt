@@ -6,7 +6,7 @@ use contract.Running.{givenOf, tables, tablesOf}
 use denote.Enum.Laws as enum
 use denote.Triple.Spec.{tripleOf}
 use denote.Triple.Table.{entered, cited}
-use Rattle.answers.specs.Answered.{Answered}
+use Rattle.answers.specs.Answered.{AnsweredFirst}
 use Rattle.rings.specs.Calls.{told}
 use Rattle.rings.specs.declared.Answer.{Answer}
 use Rattle.rings.proofs.Answer as answer
@@ -28,7 +28,7 @@ use Rattle.records.proofs.families_of.Statement as stated
 use Rattle.records.proofs.families_of.Code as code
 
 abbrev Claim : ℕ → List ℕ → List ℕ → List ℕ → Answer → List ℕ → List ℕ → Type 0
-Claim n xs rows classRows r rows′ classRows′ = (i : ℕ) → (size : ℕ) × Answered n xs rows classRows i (told r size) rows′ classRows′
+Claim n xs rows classRows r rows′ classRows′ = AnsweredFirst n xs rows classRows (told r) rows′ classRows′
 
 pub families-of-spec : {M : Type 1} → stated.statement M
 unfolding code.routine tablesOf
