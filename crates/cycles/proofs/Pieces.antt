@@ -1,5 +1,5 @@
 -- Every simple compound has roots, so that its pieces can be counted: bond by bond, the two pieces that the bond joins become one.
-use mathlib.Core.Path.{_≡_, refl, sym, ap, _∙_, subst₂}
+use mathlib.Core.Path.{_≡_, refl, sym, ap, _∙_, subst, subst₂}
 use mathlib.Core.Bool.{cond}
 use mathlib.Core.Logic.{_⊎_, inl, inr}
 use Prim.Native.Nat.{ℕ, zero, suc, _<_, _≤_}
@@ -17,13 +17,10 @@ module _ (c : Compound) where
   abbrev Way : ℕ → ℕ → Type 0
   Way a b = (steps : ℕ) × Walk c b a steps
 
-  walk-then : {a b d steps : ℕ} → Walk c b a steps → Way b d → Way a d
-  walk-then Walk.here w = w
-  walk-then (Walk.step j v) w = let (steps, u) = walk-then v w in (suc steps, Walk.step j u)
-
-  walk-back : {a b steps : ℕ} → Walk c b a steps → Way b a
-  walk-back Walk.here = (0, Walk.here)
-  walk-back (Walk.step (k, j) v) = let (steps, u) = walk-back v in walk-then u (1, Walk.step (k, joins-sym c j) Walk.here)
+  -- Two walks from one atom are a walk between their ends.
+  pub walk-between : {z a b s t : ℕ} → Walk c b a s → Walk c z a t → (steps : ℕ) × Walk c z b steps
+  walk-between Walk.here w = (_, w)
+  walk-between (Walk.step (k, joins) rest) w = walk-between rest (Walk.step (k, joins-sym c joins) w)
 
   -- Roots by the first k bonds alone.
   record RootedBy (k : ℕ) (root : ℕ → ℕ) : Type 0 where
@@ -68,8 +65,8 @@ module _ (c : Compound) where
       unfolding P Q
       across =
           let (_, u) = r .way (other c k) (other-lt c sound k h) in
-          let (_, v) = walk-back u in
-          walk-then v (let (steps, w) = r .way (one c k) (one-lt c sound k h) in (suc steps, Walk.step (k, Joins.turned h refl refl) w))
+          let (_, w) = r .way (one c k) (one-lt c sound k h) in
+          walk-between u (Walk.step (k, Joins.turned h refl refl) w)
 
       next-inside : (a : ℕ) → a < c .n → next a < c .n
       unfolding next P
@@ -88,9 +85,9 @@ module _ (c : Compound) where
       next-way : (a : ℕ) → a < c .n → Way a (next a)
       unfolding next
       next-way a l =
-          let (_, u) = r .way a l in
+          let (_, back) = walk-between (r .way a l .1) Walk.here in
           elim (replaced-cases P Q (root a)) [
-            | inl (e, d) ↦ rw d (walk-then u (rw e across))
+            | inl (e, d) ↦ rw d (walk-between back (subst (λ (x : ℕ). Walk c P x (across .0)) (sym e) (across .1)))
             | inr (_, d) ↦ rw d (r .way a l)
           ]
 

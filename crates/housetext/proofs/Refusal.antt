@@ -45,7 +45,8 @@ reads-either text = first (fieldAt atomsWord newline text)
     first Missing = refusing
     first (Value n i) = second n i (fieldAt bondsWord newline (drop i text))
 
-passes-refuses : {n m number line : ℕ} → passes n m ≡ refuses number line → ⊥
+-- a text is not both taken and refused
+pub passes-refuses : {n m number line : ℕ} → passes n m ≡ refuses number line → ⊥
 passes-refuses e = let z : _≡_ {A = ℕ} 0 1 = cc in omega arith
 
 module _ (text : List ℕ) where

@@ -5,13 +5,13 @@ use Prim.Native.Nat.{ℕ, zero, suc, _<_}
 use native.Mathlib.Omega.{arith}
 use lib.ListN.{getD, replicate}
 use Rattle.housetext.specs.Text.{passes, refuses, reads}
+use Rattle.housetext.proofs.Refusal.{passes-refuses}
 use Rattle.listingtext.specs.Listing.{rowOf, familyLine, familyLines, classLines, headLines, listing, refusal}
 use Rattle.answers.specs.Answered.{Told, full, refused, Answered}
 use Rattle.answers.proofs.Unique.{answered-unique}
 use Rattle.rings.specs.declared.Answer.{Answer}
-use Rattle.rings.specs.declared.Answer.the-variants.{Full, WrongAtoms, WrongBytes, NoAtom, Loop, Again, Pieces, FewRows, FewClassRows, ManyRings}
 use Rattle.rings.specs.Calls.{told}
-use Rattle.rings.proofs.Unique.{told-injective}
+use Rattle.rings.proofs.Unique.{told-injective, same-size}
 use Rattle.listing.specs.Listed.{linesOf, familiesIn, Printed, departs, answers, Listed}
 use Rattle.listing.proofs.Lines.{answer-room}
 
@@ -33,23 +33,10 @@ lines-same n m rows xs ys classRows (full cyclomatic families classes total ring
     (family-lines-same rows xs ys families h)
 lines-same n m rows xs ys classRows (refused number at) h = refl
 
-sizeIn : Told → ℕ
-sizeIn (full cyclomatic families classes total rings size) = size
-sizeIn (refused number at) = 0
-
 -- an answer that tells a family tells one size
 told-size : (a : Answer) (s t : ℕ) → told a s ≡ told a t → 0 < familiesIn (told a 0) → s ≡ t
-unfolding told familiesIn sizeIn
-told-size (Full cyclomatic families classes total rings) s t e h = ap sizeIn e
-told-size WrongAtoms s t e h = absurd (omega arith)
-told-size WrongBytes s t e h = absurd (omega arith)
-told-size (NoAtom bond) s t e h = absurd (omega arith)
-told-size (Loop bond) s t e h = absurd (omega arith)
-told-size (Again bond) s t e h = absurd (omega arith)
-told-size Pieces s t e h = absurd (omega arith)
-told-size (FewRows needed) s t e h = absurd (omega arith)
-told-size (FewClassRows needed) s t e h = absurd (omega arith)
-told-size ManyRings s t e h = absurd (omega arith)
+unfolding familiesIn
+told-size a s t e h = same-size a s t e (λ number at z. absurd (omega (arith, h, ap familiesIn z)))
 
 -- what is answered for every row leaves one listing
 lines-unique : (n m : ℕ) (bytes : List ℕ) (a b : Answer) (rows xs classRows rows′ ys classRows′ : List ℕ)
@@ -71,9 +58,6 @@ lines-unique n m bytes a b rows xs classRows rows′ ys classRows′ p q =
 refuses-line : {line other : ℕ} → refuses 10 line ≡ refuses 10 other → line ≡ other
 refuses-line e = cc
 
-refuses-passes : {line n m : ℕ} → refuses 10 line ≡ passes n m → ⊥
-refuses-passes e = let z : _≡_ {A = ℕ} 0 1 = cc in omega arith
-
 passes-atoms : {n m k l : ℕ} → passes n m ≡ passes k l → n ≡ k
 passes-atoms e = cc
 
@@ -83,8 +67,8 @@ passes-bonds e = cc
 -- One text is printed for each text that is read.
 pub printed-unique : {text lines other : List ℕ} → Printed text lines → Printed text other → lines ≡ other
 printed-unique (departs e) (departs d) = ap (refusal 10) (refuses-line (sym e ∙ d))
-printed-unique (departs e) (answers b rows ys classRows d q) = absurd (refuses-passes (sym e ∙ d))
-printed-unique (answers a rows xs classRows e p) (departs d) = absurd (refuses-passes (sym d ∙ e))
+printed-unique (departs e) (answers b rows ys classRows d q) = absurd (passes-refuses (sym d ∙ e))
+printed-unique (answers a rows xs classRows e p) (departs d) = absurd (passes-refuses (sym e ∙ d))
 printed-unique {text} (answers {atoms = n} {bonds = m} a rows xs classRows e p) (answers {atoms = k} {bonds = l} b rows′ ys classRows′ d q) =
     let atoms : n ≡ k = passes-atoms (sym e ∙ d) in
     let bonds : m ≡ l = passes-bonds (sym e ∙ d) in

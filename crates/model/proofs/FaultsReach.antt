@@ -9,6 +9,7 @@ use Rattle.bondset.specs.Sets.{bit, lengthTo}
 use Rattle.bondset.proofs.Laws.{length-le, lt-or-ge, pos-of-ne, bit-lt, bit-pow-same, zero-bit, cases2, ext, lowest}
 use Rattle.cycles.specs.Compound.{Compound, Bonded, Walk, Sound, OnePiece}
 use Rattle.cycles.proofs.PathsDecide.{joins-sym}
+use Rattle.cycles.proofs.Pieces.{walk-between}
 use Rattle.model.specs.Net.{Net, netOf}
 use Rattle.model.specs.Layer.{Wave, spread, wave}
 use Rattle.model.specs.Fault.{reached}
@@ -39,11 +40,6 @@ module _ (s t : ℕ) (more : (k : ℕ) → bit s k ≡ 1 → bit t k ≡ 1) wher
   ]
 
 module _ (c : Compound) where
-  -- Two walks from one atom are a walk between their ends.
-  walk-between : {z a b s t : ℕ} → Walk c b a s → Walk c z a t → (steps : ℕ) × Walk c z b steps
-  walk-between Walk.here w = (_, w)
-  walk-between (Walk.step (k, joins) rest) w = walk-between rest (Walk.step (k, joins-sym c joins) w)
-
   -- A set that holds each neighbour of what it holds, holds the end of a walk that starts in it.
   walk-stays : {a b steps : ℕ} (s : ℕ) → ((a b : ℕ) → bit s a ≡ 1 → Bonded c a b → bit s b ≡ 1) → Walk c b a steps → bit s a ≡ 1 → bit s b ≡ 1
   walk-stays s closed Walk.here e = e

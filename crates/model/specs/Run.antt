@@ -46,6 +46,7 @@ numbered k holds i s =
 unfoldable pub classed : List ℕ → Row → Row
 classed labels row = record { family = row .family; mark = row .mark; class = getD labels (row .class) 0; size = row .size }
 
+-- The end of length k: its classes are numbered, and its rows name them and join the rows of the shorter lengths.
 unfoldable pub settled : ℕ → State → State
 settled k st =
     let s = through (numbered k (st .holds)) (count (st .short) (st .marks - st .short)) (record { labels = st .labels; table = st .table }) in

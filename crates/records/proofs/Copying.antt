@@ -1,6 +1,6 @@
 -- The bytes of the records in an array, one record after the other.
 use mathlib.Core.Path.{_≡_, refl, sym, ap, _∙_}
-use mathlib.Core.Bool.{Bool, true, false}
+use mathlib.Core.Bool.{Bool, true, false, cond}
 use mathlib.Core.List.{List, [], _∷_, _++_, append-assoc}
 use Prim.Native.Nat.{ℕ, suc, _+_, _-_, _*_, _/_, _<_, _≤_}
 use native.Mathlib.Omega.{arith}
@@ -8,7 +8,7 @@ use lib.Dec.{ltb}
 use lib.ListN.{length, getD, set, replicate, take, length-append, length-replicate}
 use lib.Seq.{take-suc, take-length, set-at, take-at, length-take-le}
 use borrow.Author.Tests.{lt-ltb, le-ltb, ltb-false}
-use Rattle.records.specs.Records.{flattened, laid, lentBytes, bytesWhere}
+use Rattle.records.specs.Records.{flattened, laid, lentBytes}
 use Rattle.records.specs.declared.Bond.{Bond}
 use Rattle.records.proofs.Handing.{handed, handedWhere, length-flattened}
 
@@ -62,24 +62,21 @@ module _ (bonds : List Bond) (k : ℕ) (within : k < length bonds) (small : k < 
       ∙ ap (λ (l : List ℕ). l ++ replicate (192 - 2 * suc k) 0) (sym one-more)
 
 pub lentBytes-many : (count : ℕ) → 96 < count → lentBytes count ≡ 1
-unfolding bytesWhere
 lentBytes-many count many = simp (lt-ltb 96 count many)
 
 pub lentBytes-few : (count : ℕ) → count ≤ 96 → lentBytes count ≡ 2 * count
-unfolding bytesWhere
 lentBytes-few count few = simp (le-ltb 96 count few)
 
 -- How many records are copied: all, or none where there are more than 96.
-ends-where : (count : ℕ) (many : Bool) → ltb 96 count ≡ many → (bytesWhere many count / 2 ≤ count) × (bytesWhere many count / 2 ≤ 96)
-unfolding bytesWhere
+ends-where : (count : ℕ) (many : Bool) → ltb 96 count ≡ many → (cond many 1 (2 * count) / 2 ≤ count) × (cond many 1 (2 * count) / 2 ≤ 96)
 ends-where count true e = (omega arith, omega arith)
 ends-where count false e = (omega arith, omega (arith, ltb-false 96 count e))
 
 pub ends : (count : ℕ) → (lentBytes count / 2 ≤ count) × (lentBytes count / 2 ≤ 96)
 ends count = ends-where count (ltb 96 count) refl
 
-handed-where : (bonds : List Bond) (many : Bool) → ltb 96 (length bonds) ≡ many → take (bytesWhere many (length bonds)) (laid bonds (bytesWhere many (length bonds) / 2)) ≡ handedWhere many bonds
-unfolding bytesWhere handedWhere
+handed-where : (bonds : List Bond) (many : Bool) → ltb 96 (length bonds) ≡ many → take (cond many 1 (2 * length bonds)) (laid bonds (cond many 1 (2 * length bonds) / 2)) ≡ handedWhere many bonds
+unfolding handedWhere
 handed-where bonds true e = ap (take 1) (laid-none bonds)
 handed-where bonds false e =
     ap (λ (j : ℕ). take (2 * length bonds) (laid bonds j)) all ∙ take-at (flattened (take (length bonds) bonds)) _ (2 * length bonds) long

@@ -1,6 +1,6 @@
 -- Bonds as records: their bytes, and what the byte form is lent of them.
 use mathlib.Core.List.{List, [], _∷_, _++_}
-use mathlib.Core.Bool.{Bool, true, false}
+use mathlib.Core.Bool.{cond}
 use Prim.Native.Nat.{ℕ, _-_, _*_}
 use lib.ListN.{take, replicate}
 use lib.Dec.{ltb}
@@ -17,9 +17,5 @@ laid bonds k = flattened (take k bonds) ++ replicate (192 - 2 * k) 0
 
 -- How many bytes the byte form is lent for so many records: two for each, and 1, which it refuses as it refuses their bytes, for more
 -- than 96.
-unfoldable pub bytesWhere : Bool → ℕ → ℕ
-bytesWhere true count = 1
-bytesWhere false count = 2 * count
-
 abbrev pub lentBytes : ℕ → ℕ
-lentBytes count = bytesWhere (ltb 96 count) count
+lentBytes count = cond (ltb 96 count) 1 (2 * count)

@@ -47,7 +47,7 @@ sizeIn (full cyclomatic families classes total rings size) = size
 sizeIn (refused number place) = 0
 
 -- What is told names the size too, but in a refusal.
-same-size : (a : Answer) (s t : ℕ) → told a s ≡ told a t → ((number at : ℕ) → told a 0 ≡ refused number at → s ≡ t) → s ≡ t
+pub same-size : (a : Answer) (s t : ℕ) → told a s ≡ told a t → ((number at : ℕ) → told a 0 ≡ refused number at → s ≡ t) → s ≡ t
 unfolding told sizeIn
 same-size (Full cyclomatic families classes total rings) s t e k = ap sizeIn e
 same-size WrongAtoms s t e k = k 1 0 refl
