@@ -6,3 +6,8 @@ pub mod Reported
 pub mod Demand1
 pub mod Demand2
 pub mod Demand3
+pub mod RenumberCounts
+pub mod Renumber
+pub mod RenumberAnswers
+pub mod Through
+pub mod Plain

@@ -13,11 +13,12 @@ use Rattle.answers.specs.Bytes.{byte, familyAt, markAt, classAt, longAt,
 -- Blocks of w bytes, one for each element of a list.
 module _ {X : Type 0} (w : ℕ) (block : X → List ℕ) (blocks : List X → List ℕ) (wide : (x : X) → length (block x) ≡ w) (none : blocks [] ≡ [])
     (more : (x : X) (xs : List X) → blocks (x ∷ xs) ≡ block x ++ blocks xs) where
-  length-blocks : (xs : List X) → length (blocks xs) ≡ w * length xs
+  pub length-blocks : (xs : List X) → length (blocks xs) ≡ w * length xs
   length-blocks [] = rw none (sym (mul-zero w))
   length-blocks (x ∷ xs) = rw more (simp length-append (omega (arith, wide x, length-blocks xs, mul-suc w (length xs))))
 
-  getD-blocks : {x : X} {xs : List X} {k : ℕ} (j l : ℕ) (rest : List ℕ) → j < w → l ≡ w * k + j → At xs k x
+  -- Byte j of block k.
+  pub getD-blocks : {x : X} {xs : List X} {k : ℕ} (j l : ℕ) (rest : List ℕ) → j < w → l ≡ w * k + j → At xs k x
       → getD (blocks xs ++ rest) l 0 ≡ getD (block x) j 0
   getD-blocks {x} j l rest h e (At.here {xs = xs}) =
       let d : l ≡ j = omega (arith, mul-zero w) in

@@ -2,15 +2,15 @@
 use mathlib.Core.Path.{_≡_}
 use mathlib.Core.Bool.{cond}
 use mathlib.Core.List.{List, [], _∷_}
-use mathlib.Core.Logic.{_↔_}
-use Prim.Native.Nat.{ℕ, zero, suc, _+_, _*_, _<_}
+use Prim.Native.Nat.{ℕ, suc, _+_, _*_, _<_}
 use lib.Dec.{eqb}
 use lib.ListN.{length, getD, drop}
-use Rattle.spans.specs.Elements.{_∈_, Once}
 use Rattle.cycles.specs.Compound.{Compound}
 use Rattle.cycles.specs.Ring.{Relevant}
 use Rattle.cycles.specs.Basis.{Interchangeable}
 use Rattle.cycles.specs.Family.{Family, Prototype, Member}
+pub use Rattle.cycles.specs.Through.{Exactly}
+unfoldable pub use Rattle.cycles.specs.Through.{sumTo}
 
 -- Byte k of a buffer.
 abbrev pub byte : List ℕ → ℕ → ℕ
@@ -45,21 +45,9 @@ familiesAt left g = byte left (5 * g + 2) + 256 * byte left (5 * g + 3)
 unfoldable pub essentialAt : List ℕ → ℕ → ℕ
 essentialAt left g = byte left (5 * g + 4)
 
--- f 0 + .. + f (k - 1).
-unfoldable pub sumTo : ℕ → (ℕ → ℕ) → ℕ
-sumTo zero f = 0
-sumTo (suc k) f = sumTo k f + f k
-
 -- How many of the first rows are of class g.
 abbrev pub rowsOf : List ℕ → ℕ → ℕ → ℕ
 rowsOf left families g = sumTo families (λ k. cond (eqb (classAt left k) g) 1 0)
-
--- Exactly k things have P: a list of them all, each once.
-pub record Exactly {X : Type 0} (k : ℕ) (P : X → Type 0) : Type 0 where
-  pub listed : List X
-  pub once : Once listed
-  pub all : (x : X) → (x ∈ listed) ↔ P x
-  pub count : length listed ≡ k
 
 -- "Rows start at byte 0 of their buffer with no gaps; bytes after the last stay as they were": so many rows of a width.
 pub record SpareKept (width count : ℕ) (left lent : List ℕ) : Type 0 where

@@ -1,3 +1,5 @@
 pub mod Answered
 pub mod Cases
 pub mod Bytes
+pub mod Classes
+pub mod Through

@@ -36,7 +36,7 @@ getD-bytesOf (suc n) s j h =
     (λ (l : n ≤ j). let e : j ≡ n = omega arith in rw e (getD-at (bytesOf n s) (byteOf s n) [] 0 n (length-bytesOf n s))) (lt-or-ge j n)
 
 -- bytes that are those of a set stand for it
-ofFirst-byteOf : (n s : ℕ) (bs : List ℕ) → ((j : ℕ) → j < n → getD bs j 0 ≡ byteOf s j) → ofFirst n bs ≡ s % 2 ^ (8 * n)
+pub ofFirst-byteOf : (n s : ℕ) (bs : List ℕ) → ((j : ℕ) → j < n → getD bs j 0 ≡ byteOf s j) → ofFirst n bs ≡ s % 2 ^ (8 * n)
 unfolding ofFirst
 ofFirst-byteOf zero s bs h = sym (lt-one (mod-lt s (pow-pos 0)))
 ofFirst-byteOf (suc n) s bs h =
@@ -60,7 +60,7 @@ ofFirst-lt zero bs h = pow-pos 0
 ofFirst-lt (suc n) bs h =
     byte-over n (ofFirst n bs) (getD bs n 0) (ofFirst-lt n bs (λ j l. h j (omega arith))) (h n (omega arith))
 
-byteOf-ofFirst : (n : ℕ) (bs : List ℕ) → ((j : ℕ) → j < n → getD bs j 0 < 256) → (j : ℕ) → j < n → byteOf (ofFirst n bs) j ≡ getD bs j 0
+pub byteOf-ofFirst : (n : ℕ) (bs : List ℕ) → ((j : ℕ) → j < n → getD bs j 0 < 256) → (j : ℕ) → j < n → byteOf (ofFirst n bs) j ≡ getD bs j 0
 unfolding ofFirst
 byteOf-ofFirst zero bs h j l = absurd (omega arith)
 byteOf-ofFirst (suc n) bs h j l =

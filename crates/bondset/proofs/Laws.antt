@@ -1,7 +1,7 @@
 -- Laws of bond sets as numbers: membership, equality, sums, lengths, the lowest bond, and the bits of a number of two words.
 use mathlib.Core.Path.{_≡_, refl, sym, ap, ap₂, _∙_, subst}
 use mathlib.Core.Logic.{_⊎_, inl, inr, ⊎-elim}
-use Prim.Native.Nat.{ℕ, zero, suc, _+_, _-_, _*_, _/_, _%_, _^_, _≤_, _<_, suc-le-suc, min}
+use Prim.Native.Nat.{ℕ, zero, suc, _+_, _-_, _*_, _/_, _%_, _^_, _≤_, _<_, suc-le-suc, min, max}
 use native.Mathlib.Nat.{zero-div, mod-lt, mod-eq-of-lt, zero-lt-suc, le-of-suc-le-suc, not-suc-le-zero, div-eq-of-lt, div-self, lt-of-lt-of-le, mul-mod-left, pow-suc}
 use native.Mathlib.Numerals.{add-one, one-add}
 use native.Mathlib.Omega.{arith}
@@ -9,7 +9,8 @@ use native.Mathlib.Decide.{decLt}
 use borrow.Author.Tests.{lt-ltb, le-ltb}
 use lib.Arith.{digits-lt, bin-ind, digits-mod, lt-one}
 use lib.Pow.{shr-lt, shl-shr, pow-pos, pow-lt, pow-mono, pow-add, high, low, field, mod-pow-add, mod-mod-pow, shr-shr}
-use lib.Bits.{bitXor, bitAnd, bitOr, differ, xor-comm, xor-self, xor-zero-r, xor-step, and-step, xor-shr, and-shr, or-disjoint, xor-disjoint}
+use lib.Bits.{bitXor, bitAnd, bitOr, differ, xor-comm, xor-self, xor-zero-l, xor-zero-r, xor-step, xor-shr, xor-disjoint}
+use lib.Bits.{and-step, and-shr, and-zero-r, or-step, or-shr, or-zero-l, or-disjoint}
 use lib.Count.{ones, ones-cat, trailingZeros, under}
 use Rattle.bondset.specs.Sets.{bit, single, lengthTo, Lowest}
 
@@ -55,6 +56,14 @@ bit-xor a b k =
 pub bit-and : (a b k : ℕ) → bit (bitAnd a b) k ≡ min (bit a k) (bit b k)
 bit-and a b k =
     ap (λ (x : ℕ). x % 2) (and-shr a b k ∙ and-step (a / 2 ^ k) (b / 2 ^ k)) ∙ digits-mod _ (min-lt (bit a k) (bit b k) (bit-lt a k))
+
+max-lt : (x y : ℕ) → x < 2 → y < 2 → max x y < 2
+max-lt x y hx hy = omega arith
+
+pub bit-or : (a b k : ℕ) → bit (bitOr a b) k ≡ max (bit a k) (bit b k)
+bit-or a b k =
+    ap (λ (x : ℕ). x % 2) (or-shr a b k ∙ or-step (a / 2 ^ k) (b / 2 ^ k))
+    ∙ digits-mod _ (max-lt (bit a k) (bit b k) (bit-lt a k) (bit-lt b k))
 
 pub bit-pow-same : (k : ℕ) → bit (2 ^ k) k ≡ 1
 bit-pow-same k = ap (λ (x : ℕ). x % 2) (div-self (pow-pos k))
@@ -115,6 +124,27 @@ xor-swap a b c d =
 
 pub xor-cancel : (a b : ℕ) → bitXor (bitXor a b) b ≡ a
 xor-cancel a b = xor-assoc a b b ∙ ap (bitXor a) (xor-self b) ∙ xor-zero-r a
+
+-- ---- a union is one set and what the other has besides
+
+or-digit : (x y : ℕ) → x < 2 → y < 2 → differ x (differ y (min y x)) ≡ max x y
+or-digit x y hx hy =
+    cases2 (λ (x : ℕ). differ x (differ y (min y x)) ≡ max x y)
+    (cases2 (λ (y : ℕ). differ 0 (differ y (min y 0)) ≡ max 0 y) refl refl y hy)
+    (cases2 (λ (y : ℕ). differ 1 (differ y (min y 1)) ≡ max 1 y) refl refl y hy) x hx
+
+pub xor-besides : (a b : ℕ) → bitXor a (bitXor b (bitAnd b a)) ≡ bitOr a b
+xor-besides a =
+    bin-ind (λ (n : ℕ). (b : ℕ) → bitXor n (bitXor b (bitAnd b n)) ≡ bitOr n b)
+    (λ b. xor-zero-l (bitXor b (bitAnd b 0)) ∙ ap (bitXor b) (and-zero-r b) ∙ xor-zero-r b ∙ sym (or-zero-l b))
+    (λ n ih b. xor-step n (bitXor b (bitAnd b n))
+    ∙ ap₂ (λ (x y : ℕ). bitXor (n / 2) x * 2 + differ (n % 2) y)
+    (xor-shr b (bitAnd b n) 1 ∙ ap (bitXor (b / 2)) (and-shr b n 1)) (xor-odd b (bitAnd b n) ∙ ap (differ (b % 2)) (and-odd b n))
+    ∙ ap₂ (λ (x y : ℕ). x * 2 + y) (ih (b / 2)) (or-digit (n % 2) (b % 2) (mod-lt n two-pos) (mod-lt b two-pos))
+    ∙ sym (or-step n b)) a
+  where
+    and-odd : (a b : ℕ) → bitAnd a b % 2 ≡ min (a % 2) (b % 2)
+    and-odd a b = ap (λ (x : ℕ). x % 2) (and-step a b) ∙ digits-mod _ (min-lt (a % 2) (b % 2) (mod-lt a two-pos))
 
 -- ---- lengths
 

@@ -8,3 +8,7 @@ pub mod Rows
 pub mod ReductionTags
 pub mod ReductionModel
 pub mod ReductionTheorems
+pub mod ReductionLinear
+pub mod IndexReduce
+pub mod IndexPush
+pub mod IndexLoops

@@ -28,10 +28,10 @@ use Rattle.bondset.proofs.ReductionModel.{reduced-none, reduced-more, u
 
 -- ---- one row
 
-add-lacking : (t p r : ℕ) → bit t p ≡ 0 → bitXor t (bit t p * r) ≡ t
+pub add-lacking : (t p r : ℕ) → bit t p ≡ 0 → bitXor t (bit t p * r) ≡ t
 add-lacking t p r z = ap (bitXor t) (ap (λ (d : ℕ). d * r) z ∙ zero-mul r) ∙ xor-zero-r t
 
-add-xor : (a b p r : ℕ) → bitXor (bitXor a b) (bit (bitXor a b) p * r) ≡ bitXor (bitXor a (bit a p * r)) (bitXor b (bit b p * r))
+pub add-xor : (a b p r : ℕ) → bitXor (bitXor a b) (bit (bitXor a b) p * r) ≡ bitXor (bitXor a (bit a p * r)) (bitXor b (bit b p * r))
 add-xor a b p r =
     ap (bitXor (bitXor a b)) (ap (λ (d : ℕ). d * r) (bit-xor a b p) ∙ scale-xor r (bit a p) (bit b p) (bit-lt a p) (bit-lt b p))
     ∙ xor-swap a b (bit a p * r) (bit b p * r)
@@ -54,7 +54,7 @@ differ-self zero = refl
 differ-self (suc d) = differ-self d
 
 -- after one more row: what held of the pivots before still holds, and the row's own pivot is gone
-add-clears : (t p r q : ℕ) → bit r p ≡ 1 → (q ≡ p) ⊎ ((bit t q ≡ 0) × (bit r q ≡ 0)) → bit (bitXor t (bit t p * r)) q ≡ 0
+pub add-clears : (t p r q : ℕ) → bit r p ≡ 1 → (q ≡ p) ⊎ ((bit t q ≡ 0) × (bit r q ≡ 0)) → bit (bitXor t (bit t p * r)) q ≡ 0
 add-clears t p r q own (inl e) =
     rw e
     (bit-xor t (bit t p * r) p
@@ -409,7 +409,21 @@ module _ {rows tags pivots chosen : List ℕ} (state : Reduction rows tags pivot
       }
 
 -- A set v that the rows do not reduce to nothing is one more chosen set: its rest is stored as a row, with what was used and itself as the tag,
--- and with the lowest bond of the rest as the pivot.
+-- and with any bond of the rest as the pivot.
+pub reduction-push-at : {rows tags pivots chosen : List ℕ} → Reduction rows tags pivots chosen → Room rows tags pivots (length chosen + 1) → length chosen < 128
+    → (v : ℕ) → reduced rows pivots 0 (length chosen) v < 2 ^ 128 → (p : ℕ) → bit (reduced rows pivots 0 (length chosen) v) p ≡ 1 → p < 128
+    → Reduction (putRow rows (length chosen) (reduced rows pivots 0 (length chosen) v))
+    (putRow tags (length chosen) (pushedTag (length chosen) (used rows tags pivots 0 (length chosen) v 0)))
+    (set pivots (length chosen) p)
+    (chosen ++ (v ∷ []))
+reduction-push-at {rows} {tags} {pivots} {chosen} state room few v fits p holds small =
+    let n = length chosen in
+    let rest = reduced rows pivots 0 n v in
+    let u = used rows tags pivots 0 n v 0 in
+    subst (λ (g : ℕ). Reduction (putRow rows n rest) (putRow tags n g) (set pivots n p) (chosen ++ (v ∷ []))) (sym (pushedTag-pow n u few))
+    (grown state room v rest u p (reduction-rest state n (le-refl n) v) holds small (reduction-set-lt state n (le-refl n) v fits))
+
+-- and so with the lowest bond of the rest
 pub reduction-push : {rows tags pivots chosen : List ℕ} → Reduction rows tags pivots chosen → Room rows tags pivots (length chosen + 1) → length chosen < 128
     → (v : ℕ) → (reduced rows pivots 0 (length chosen) v ≡ 0 → ⊥) → reduced rows pivots 0 (length chosen) v < 2 ^ 128
     → Reduction (putRow rows (length chosen) (reduced rows pivots 0 (length chosen) v))
@@ -418,14 +432,8 @@ pub reduction-push : {rows tags pivots chosen : List ℕ} → Reduction rows tag
     (chosen ++ (v ∷ []))
 unfolding pivotOf
 reduction-push {rows} {tags} {pivots} {chosen} state room few v some fits =
-    let n = length chosen in
-    let rest = reduced rows pivots 0 n v in
-    let u = used rows tags pivots 0 n v 0 in
-    let t = trailing 128 rest (pos-of-ne rest some) fits in
-    subst (λ (g : ℕ). Reduction (putRow rows n rest) (putRow tags n g) (set pivots n (trailingZeros 128 rest)) (chosen ++ (v ∷ [])))
-    (sym (pushedTag-pow n u few))
-    (grown state room v rest u (trailingZeros 128 rest) (reduction-rest state n (le-refl n) v) (t .here) (t .small)
-    (reduction-set-lt state n (le-refl n) v fits))
+    let t = trailing 128 (reduced rows pivots 0 (length chosen) v) (pos-of-ne (reduced rows pivots 0 (length chosen) v) some) fits in
+    reduction-push-at state room few v fits (trailingZeros 128 (reduced rows pivots 0 (length chosen) v)) (t .here) (t .small)
 
 -- ---- an expansion, cut at the number of the shorter chosen sets
 

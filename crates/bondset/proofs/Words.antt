@@ -7,7 +7,7 @@ use native.Mathlib.Numerals.{add-one}
 use native.Mathlib.Omega.{arith}
 use borrow.Author.Tests.{ne-eqb}
 use lib.Arith.{lt-one}
-use lib.Bits.{bitOr, or-zero-r, or-add-and, and-le-l, block-half, block-odd, shifted-half, shifted-even}
+use lib.Bits.{bitOr, bitAnd, or-zero-r, or-add-and, and-le-l, and-self, and-zero-l, and-block, block-half, block-odd, shifted-half, shifted-even}
 use lib.Count.{trailingZeros, under}
 use lib.Dec.{eqb}
 use lib.ListN.{getD}
@@ -77,3 +77,17 @@ pub trailing-hi : (w v hi : ℕ) → trailingZeros (w + v) (hi * 2 ^ w) ≡ w + 
 unfolding trailingZeros
 trailing-hi zero v hi = simp (zero-add, mul-one)
 trailing-hi (suc w) v hi = rw (suc-add w v, suc-add w (trailingZeros v hi), shifted-half, shifted-even) (ap suc (trailing-hi w v hi))
+
+-- ---- a set without its lowest bond: that is in the low word, or the low word is empty
+
+pub others-lo : (w hi lo : ℕ) → 0 < lo → lo < 2 ^ w → bitAnd (hi * 2 ^ w + lo) (hi * 2 ^ w + lo - 1) ≡ hi * 2 ^ w + bitAnd lo (lo - 1)
+others-lo w hi lo p h =
+    let e : hi * 2 ^ w + lo - 1 ≡ hi * 2 ^ w + (lo - 1) = omega arith in
+    ap (bitAnd (hi * 2 ^ w + lo)) e ∙ and-block w hi hi lo (lo - 1) h (omega arith) ∙ ap (λ (x : ℕ). x * 2 ^ w + bitAnd lo (lo - 1)) (and-self hi)
+
+pub others-hi : (w hi : ℕ) → 0 < hi → bitAnd (hi * 2 ^ w + 0) (hi * 2 ^ w + 0 - 1) ≡ bitAnd hi (hi - 1) * 2 ^ w + 0
+others-hi w hi p =
+    let q : suc (hi - 1) ≡ hi = omega arith in
+    let e : hi * 2 ^ w + 0 - 1 ≡ (hi - 1) * 2 ^ w + (2 ^ w - 1) = omega (arith, ap (λ (x : ℕ). x * 2 ^ w) q, suc-mul (hi - 1) (2 ^ w), pow-pos w) in
+    ap (bitAnd (hi * 2 ^ w + 0)) e ∙ and-block w hi (hi - 1) 0 (2 ^ w - 1) (pow-pos w) (omega (arith, pow-pos w))
+    ∙ ap (λ (x : ℕ). bitAnd hi (hi - 1) * 2 ^ w + x) (and-zero-l (2 ^ w - 1))

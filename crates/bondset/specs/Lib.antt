@@ -3,3 +3,4 @@ pub mod Sets
 pub mod Bytes
 pub mod Rows
 pub mod Reduction
+pub mod Index

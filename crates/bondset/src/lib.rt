@@ -15,6 +15,7 @@ ghost use Rattle.bondset.specs.Bytes.{byteOf, bytesOf, ofFirst, ofBytes}
 ghost use Rattle.bondset.specs.Rows.{rowAt, putRow};
 ghost use Rattle.bondset.specs.Sets.{has, single, lengthTo, value};
 
+pub mod indexed;
 pub mod reduction;
 
 /// A set of bonds: bond k is in it if bit k is 1, counted from the lowest bit of `lo` through `hi`.
@@ -108,6 +109,25 @@ pub fn lowest(a: BondSet) -> usize
     u64::trailing_zeros(a.hi) as usize + 64
 }
 
+/// The set without its lowest bond.
+pub fn others(a: BondSet) -> BondSet
+    ensures { λ r. ⌜ value r ≡ bitAnd (value a) (value a - 1) ⌝ }
+{
+    if a.lo != 0 {
+        return BondSet {
+            lo: a.lo & (a.lo - 1),
+            hi: a.hi,
+        };
+    }
+    if a.hi != 0 {
+        return BondSet {
+            lo: 0,
+            hi: a.hi & (a.hi - 1),
+        };
+    }
+    a
+}
+
 /// The bonds of the set from bond `k` on.
 pub fn since(a: BondSet, k: usize) -> BondSet
     ensures { λ r. ⌜ value r ≡ value a / 2 ^ k * 2 ^ k ⌝ }
@@ -128,7 +148,7 @@ pub fn since(a: BondSet, k: usize) -> BondSet
 }
 
 /// Byte `j` of the set, of its first 12: bond 8j is the lowest bit.
-fn byte(a: BondSet, j: usize) -> u8
+pub fn byte(a: BondSet, j: usize) -> u8
     requires { ⌜ j < 12 ⌝ }
     ensures { λ r. ⌜ r ≡ byteOf (value a) j ⌝ }
 {

@@ -80,19 +80,19 @@ module _ (n : ℕ) (adj touch : List ℕ) (from : ℕ) (us : List ℕ) (d : ℕ)
   names-are = sym (named ∙ ap (used rows tags pivots 0 (s .tally .short) ring) empty)
 
   -- Nothing is left of it: it is a sum of shorter rings, or was dropped.
-  pub attempt-none : eqb rest 0 ≡ true → Sized rows tags pivots → Fit labels holds (s .tally)
-      → Tries (attempted (graph n adj touch) from us d f) s rows tags pivots labels holds out sizes s rows tags pivots labels holds out sizes
+  pub attempt-none : eqb rest 0 ≡ true → {place : List ℕ} → Sized rows tags pivots place (s .tally .index) (s .tally .marks) → Fit labels holds (s .tally)
+      → Tries (attempted (graph n adj touch) from us d f) s rows tags pivots labels holds out sizes s rows tags pivots labels holds out sizes place
   unfolding attempted
   attempt-none z sized fit = record { is = λ table. rw (ring-is, ← left, z); sized = sized; fit = fit }
 
   -- It is kept: a times b rings, the ledger r.
-  pub attempt-kept : eqb rest 0 ≡ false → (a b : ℕ) {r : Tally} {rings : Count} {rows′ tags′ pivots′ labels′ holds′ out′ sizes′ : List ℕ}
+  pub attempt-kept : eqb rest 0 ≡ false → (a b : ℕ) {r : Tally} {rings : Count} {rows′ tags′ pivots′ labels′ holds′ out′ sizes′ place′ : List ℕ}
       → a ≡ ways (net adj []) us d (f .p) → b ≡ ways (net adj []) us d (f .q) → rings ≡ added most (s .rings) (a * b)
       → sizes′ ≡ putSize from (s .tally .families) (cond (ltb 0 (rings .over)) 0 (a * b)) sizes
       → ((table : List ℕ) → ledgerOf r rows′ tags′ pivots′ labels′ holds′ out′ table ≡ entered f rest names (ledgerOf (s .tally) rows tags pivots labels holds out table))
-      → Sized rows′ tags′ pivots′ → Fit labels′ holds′ r
+      → Sized rows′ tags′ pivots′ place′ (r .index) (r .marks) → Fit labels′ holds′ r
       → Tries (attempted (graph n adj touch) from us d f) s rows tags pivots labels holds out sizes
-      (record { tally = r; rings = rings }) rows′ tags′ pivots′ labels′ holds′ out′ sizes′
+      (record { tally = r; rings = rings }) rows′ tags′ pivots′ labels′ holds′ out′ sizes′ place′
   unfolding attempted
   attempt-kept z a b {r} {rings} {rows′} {tags′} {pivots′} {labels′} {holds′} {out′} {sizes′} p q added put ledgers sized fit = record {
     is =

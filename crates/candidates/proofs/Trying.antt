@@ -39,10 +39,10 @@ spot-small k r p q x hk hr hp hq hx = record { long = hk; top = omega arith; one
 
 module _ (attempt : Family → Engine → Engine) (all : List Family) (s : Going) (counts₀ rows₀ tags₀ pivots₀ labels₀ holds₀ out₀ sizes₀ : List ℕ) where
   -- What is left to try brings the engine where all of it brings the start; no list changes its length.
-  pub record Trying (left : List Family) (going : Going) (counts rows tags pivots labels holds out sizes : List ℕ) : Type 0 where
+  pub record Trying (left : List Family) (going : Going) (counts rows tags pivots labels holds out sizes place : List ℕ) : Type 0 where
     pub same : (table : List ℕ) → through attempt left (engineOf going rows tags pivots labels holds out table sizes)
         ≡ through attempt all (engineOf s rows₀ tags₀ pivots₀ labels₀ holds₀ out₀ table sizes₀)
-    pub sized : Sized rows tags pivots
+    pub sized : Sized rows tags pivots place (going .tally .index) (going .tally .marks)
     pub fit : Fit labels holds (going .tally)
     pub countsKept : length counts ≡ length counts₀
     pub rowsKept : length rows ≡ length rows₀
@@ -54,9 +54,9 @@ module _ (attempt : Family → Engine → Engine) (all : List Family) (s : Going
     pub sizesKept : length sizes ≡ length sizes₀
 
 module _ {attempt : Family → Engine → Engine} {all : List Family} {s : Going} {counts₀ rows₀ tags₀ pivots₀ labels₀ holds₀ out₀ sizes₀ : List ℕ} where
-  pub trying-start : {left : List Family} → left ≡ all → Sized rows₀ tags₀ pivots₀ → Fit labels₀ holds₀ (s .tally)
+  pub trying-start : {left : List Family} → left ≡ all → {place : List ℕ} → Sized rows₀ tags₀ pivots₀ place (s .tally .index) (s .tally .marks) → Fit labels₀ holds₀ (s .tally)
       → Trying attempt all s counts₀ rows₀ tags₀ pivots₀ labels₀ holds₀ out₀ sizes₀
-      left s counts₀ rows₀ tags₀ pivots₀ labels₀ holds₀ out₀ sizes₀
+      left s counts₀ rows₀ tags₀ pivots₀ labels₀ holds₀ out₀ sizes₀ place
   trying-start e sized fit = record {
     same = λ table. ap (λ (l : List Family). through attempt l (engineOf s rows₀ tags₀ pivots₀ labels₀ holds₀ out₀ table sizes₀)) e;
     sized = sized;
@@ -71,13 +71,13 @@ module _ {attempt : Family → Engine → Engine} {all : List Family} {s : Going
     sizesKept = refl;
   }
 
-  module _ {left : List Family} {going : Going} {counts rows tags pivots labels holds out sizes : List ℕ}
-      (trying : Trying attempt all s counts₀ rows₀ tags₀ pivots₀ labels₀ holds₀ out₀ sizes₀ left going counts rows tags pivots labels holds out sizes) where
+  module _ {left : List Family} {going : Going} {counts rows tags pivots labels holds out sizes place : List ℕ}
+      (trying : Trying attempt all s counts₀ rows₀ tags₀ pivots₀ labels₀ holds₀ out₀ sizes₀ left going counts rows tags pivots labels holds out sizes place) where
     -- One turn.
-    pub trying-next : {f : Family} {left′ : List Family} → left ≡ f ∷ left′ → {r : Going} {counts′ rows′ tags′ pivots′ labels′ holds′ out′ sizes′ : List ℕ}
-        → Tries (attempt f) going rows tags pivots labels holds out sizes r rows′ tags′ pivots′ labels′ holds′ out′ sizes′
+    pub trying-next : {f : Family} {left′ : List Family} → left ≡ f ∷ left′ → {r : Going} {counts′ rows′ tags′ pivots′ labels′ holds′ out′ sizes′ place′ : List ℕ}
+        → Tries (attempt f) going rows tags pivots labels holds out sizes r rows′ tags′ pivots′ labels′ holds′ out′ sizes′ place′
         → length counts′ ≡ length counts → length out′ ≡ length out → length sizes′ ≡ length sizes
-        → Trying attempt all s counts₀ rows₀ tags₀ pivots₀ labels₀ holds₀ out₀ sizes₀ left′ r counts′ rows′ tags′ pivots′ labels′ holds′ out′ sizes′
+        → Trying attempt all s counts₀ rows₀ tags₀ pivots₀ labels₀ holds₀ out₀ sizes₀ left′ r counts′ rows′ tags′ pivots′ labels′ holds′ out′ sizes′ place′
     unfolding through
     trying-next {f} {left′} e {r} {counts′} {rows′} {tags′} {pivots′} {labels′} {holds′} {out′} {sizes′} tries c o z =
         let sized = trying .sized in
@@ -102,7 +102,7 @@ module _ {attempt : Family → Engine → Engine} {all : List Family} {s : Going
 
     -- No candidate is left.
     pub trying-end : left ≡ [] → Tries (through attempt all) s rows₀ tags₀ pivots₀ labels₀ holds₀ out₀ sizes₀
-        going rows tags pivots labels holds out sizes
+        going rows tags pivots labels holds out sizes place
     unfolding through
     trying-end e = record {
       is =
@@ -114,8 +114,8 @@ module _ {attempt : Family → Engine → Engine} {all : List Family} {s : Going
 
 -- All candidates are tried.
 pub seek-tries : (G : Net) (A : List ℕ → ℕ → Family → Engine → Engine) (k r : ℕ) (us : List ℕ) {s : Going} {rows tags pivots labels holds out sizes : List ℕ}
-    {s′ : Going} {rows′ tags′ pivots′ labels′ holds′ out′ sizes′ : List ℕ}
+    {s′ : Going} {rows′ tags′ pivots′ labels′ holds′ out′ sizes′ place′ : List ℕ}
     → Tries (through (A us (depth k)) (found G k r (getD us (k / 2) 0) (getD us (k / 2 - 1) 0))) s rows tags pivots labels holds out sizes
-    s′ rows′ tags′ pivots′ labels′ holds′ out′ sizes′
-    → Tries (seek G A k r us) s rows tags pivots labels holds out sizes s′ rows′ tags′ pivots′ labels′ holds′ out′ sizes′
+    s′ rows′ tags′ pivots′ labels′ holds′ out′ sizes′ place′
+    → Tries (seek G A k r us) s rows tags pivots labels holds out sizes s′ rows′ tags′ pivots′ labels′ holds′ out′ sizes′ place′
 seek-tries G A k r us t = record { is = λ table. t .is table ∙ sym (seek-found G k r A us _); sized = t .sized; fit = t .fit }

@@ -28,8 +28,8 @@ pub record Place (adj touch layers counts : List ℕ) (d : ℕ) : Type 0 where
 
 -- Some candidates are tried; the class rows are whatever they are.
 pub record Tries (F : Engine → Engine) (s : Going) (rows tags pivots labels holds out sizes : List ℕ)
-    (r : Going) (rows′ tags′ pivots′ labels′ holds′ out′ sizes′ : List ℕ) : Type 0 where
+    (r : Going) (rows′ tags′ pivots′ labels′ holds′ out′ sizes′ place′ : List ℕ) : Type 0 where
   pub is : (table : List ℕ)
       → engineOf r rows′ tags′ pivots′ labels′ holds′ out′ table sizes′ ≡ F (engineOf s rows tags pivots labels holds out table sizes)
-  pub sized : Sized rows′ tags′ pivots′
+  pub sized : Sized rows′ tags′ pivots′ place′ (r .tally .index) (r .tally .marks)
   pub fit : Fit labels′ holds′ (r .tally)

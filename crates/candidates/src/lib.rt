@@ -57,6 +57,7 @@ fn attempt(
     rows: &mut [u64],
     tags: &mut [u64],
     pivots: &mut [u8],
+    place: &mut [u8],
     labels: &mut [u8],
     holds: &mut [u64],
     out: &mut [u8],
@@ -73,11 +74,11 @@ fn attempt(
     requires { ⌜ ((f .x ≡ 255 → ⊥) → f .x < 64) ⌝ }
     requires { ⌜ bit (getD (now layers) d 0) (f .p) ≡ 1 ⌝ }
     requires { ⌜ bit (getD (now layers) d 0) (f .q) ≡ 1 ⌝ }
-    requires { ⌜ Sized (now rows) (now tags) (now pivots) ⌝ }
+    requires { ⌜ Sized (now rows) (now tags) (now pivots) (now place) (s .tally .index) (s .tally .marks) ⌝ }
     requires { ⌜ Fit (now labels) (now holds) (s .tally) ⌝ }
     ensures { λ r′. ⌜ Tries (attempted (graph n (now (adj .entry)) (now (touch .entry))) from (now (layers .entry)) d (familyOf f)) s
         (now (rows .entry)) (now (tags .entry)) (now (pivots .entry)) (now (labels .entry)) (now (holds .entry)) (now (out .entry)) (now (sizes .entry))
-        r′ (now (rows .exit)) (now (tags .exit)) (now (pivots .exit)) (now (labels .exit)) (now (holds .exit)) (now (out .exit)) (now (sizes .exit)) ⌝ }
+        r′ (now (rows .exit)) (now (tags .exit)) (now (pivots .exit)) (now (labels .exit)) (now (holds .exit)) (now (out .exit)) (now (sizes .exit)) (now (place .exit)) ⌝ }
 {
     let link = paths::link(touch, f.p, f.q, f.x);
     let ring = paths::walk(adj, touch, layers, d, f.p, f.q, link);
@@ -87,7 +88,16 @@ fn attempt(
         rest: ring,
         used: none,
     };
-    let v = bondset::reduction::reduce(rows, tags, pivots, 0, tally.short, whole);
+    let v = bondset::indexed::reduce(
+        rows,
+        tags,
+        pivots,
+        place,
+        tally.index,
+        0,
+        tally.short,
+        whole,
+    );
     if bondset::is_empty(v.rest) {
         return s;
     }
@@ -95,7 +105,7 @@ fn attempt(
     let before = s.rings;
     let rings = counting::add(before, w.from_p, w.from_q);
     put_size(sizes, from, tally.families, rings.over, w.from_p, w.from_q);
-    let tally = ledger::enter(rows, tags, pivots, labels, holds, out, f, v, tally);
+    let tally = ledger::enter(rows, tags, pivots, place, labels, holds, out, f, v, tally);
     Going { tally, rings }
 }
 
@@ -109,6 +119,7 @@ pub fn seek(
     rows: &mut [u64],
     tags: &mut [u64],
     pivots: &mut [u8],
+    place: &mut [u8],
     labels: &mut [u8],
     holds: &mut [u64],
     out: &mut [u8],
@@ -122,12 +133,12 @@ pub fn seek(
     requires { ⌜ k ≤ 64 ⌝ }
     requires { ⌜ r < 64 ⌝ }
     requires { ⌜ Place (now adj) (now touch) (now layers) (now counts) (k / 2) ⌝ }
-    requires { ⌜ Sized (now rows) (now tags) (now pivots) ⌝ }
+    requires { ⌜ Sized (now rows) (now tags) (now pivots) (now place) (s .tally .index) (s .tally .marks) ⌝ }
     requires { ⌜ Fit (now labels) (now holds) (s .tally) ⌝ }
     ensures { λ r′. ⌜ Tries (seekOf (graph n (now (adj .entry)) (now (touch .entry))) (attempted (graph n (now (adj .entry)) (now (touch .entry))) from)
         k r (now (layers .entry))) s
         (now (rows .entry)) (now (tags .entry)) (now (pivots .entry)) (now (labels .entry)) (now (holds .entry)) (now (out .entry)) (now (sizes .entry))
-        r′ (now (rows .exit)) (now (tags .exit)) (now (pivots .exit)) (now (labels .exit)) (now (holds .exit)) (now (out .exit)) (now (sizes .exit)) ⌝ }
+        r′ (now (rows .exit)) (now (tags .exit)) (now (pivots .exit)) (now (labels .exit)) (now (holds .exit)) (now (out .exit)) (now (sizes .exit)) (now (place .exit)) ⌝ }
 {
     let d = (k - 1) / 2;
     let below = layers[d];
@@ -151,6 +162,7 @@ pub fn seek(
             rows,
             tags,
             pivots,
+            place,
             labels,
             holds,
             out,

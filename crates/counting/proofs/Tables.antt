@@ -16,7 +16,7 @@ use Rattle.model.specs.Fold.{through}
 use Rattle.model.specs.Layer.{low, ways}
 use Rattle.model.proofs.NetBits.{and-has, lt-of-has}
 use Rattle.paths.specs.Nets.{net}
-use Rattle.counting.specs.Counts.{Disjoint, Table}
+use Rattle.counting.specs.Counts.{Disjoint, Table, Others}
 use Rattle.counting.proofs.Bound.{shared-none, le-sum}
 
 -- ---- a set without its lowest atom
@@ -149,6 +149,15 @@ module _ (adj layers : List ℕ) (e : ℕ) (disjoint : Disjoint layers (e + 1)) 
 
       apart : (k : ℕ) → bit (getD layers e 0) k ≡ 1 → k ≡ low rest → ⊥
       apart k b same = shared-none layers (e + 1) disjoint e (e + 1) k (omega arith) (omega arith) b (rw same here)
+
+  -- A count that is written is one of the layer.
+  pub others-more : (rest : ℕ) (counts : List ℕ) (v : ℕ) {counts₀ : List ℕ} → Filling adj layers e rest counts → 0 < rest
+      → Others (getD layers (e + 1) 0) counts₀ counts → Others (getD layers (e + 1) 0) counts₀ (set counts (low rest) v)
+  others-more rest counts v filling some others = record {
+    stay = λ k z. getD-set-other counts (low rest) k v 0
+        (λ same. omega (arith, z, filling .inside (low rest) (low-in rest some (filling .word)), ap (λ (x : ℕ). bit (getD layers (e + 1) 0) x) same))
+        ∙ others .stay k z;
+  }
 
 -- ---- all layers
 

@@ -27,6 +27,10 @@ pub record Sized (adj layers counts : List ℕ) (d : ℕ) : Type 0 where
 pub record Table (adj layers : List ℕ) (e : ℕ) (counts : List ℕ) : Type 0 where
   pub holds : (t : ℕ) → bit (getD layers e 0) t ≡ 1 → getD counts t 0 ≡ ways (net adj []) layers e t
 
+-- The counts of the atoms outside a set are the same.
+pub record Others (s : ℕ) (counts counts′ : List ℕ) : Type 0 where
+  pub stay : (t : ℕ) → bit s t ≡ 0 → getD counts′ t 0 ≡ getD counts t 0
+
 -- The two counts are those of p and q.
 pub record Counted (adj layers : List ℕ) (d p q : ℕ) (counts : PathCounts) : Type 0 where
   pub one : counts .«from_p» ≡ ways (net adj []) layers d p

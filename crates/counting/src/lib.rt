@@ -11,7 +11,7 @@ ghost use lib.ListN.{length, getD};
 ghost use Rattle.bondset.specs.Sets.{bit};
 ghost use Rattle.model.specs.Layer.{ways};
 ghost use Rattle.paths.specs.Nets.{net};
-ghost use Rattle.counting.specs.Counts.{Disjoint, Sized, Table, Counted, added};
+ghost use Rattle.counting.specs.Counts.{Disjoint, Sized, Table, Others, Counted, added};
 
 /// How many paths lead to the top from each of two atoms.
 pub struct PathCounts {
@@ -45,7 +45,7 @@ fn lone(adj: &[u64], layers: &[u64], d: usize, t: usize) -> bool
 }
 
 /// Writes 1 as the count of each atom of the set: from the top one path leads to the top.
-fn ones(counts: &mut [u64], s: u64)
+pub fn ones(counts: &mut [u64], s: u64)
     requires { ⌜ 64 ≤ length (now counts) ⌝ }
     ensures { λ _. ⌜ ((t : ℕ) → bit s t ≡ 1 → getD (now (counts .exit)) t 0 ≡ 1) ⌝ }
 {
@@ -76,11 +76,12 @@ fn total(adj: &[u64], layers: &[u64], counts: &[u64], e: usize, t: usize) -> u64
 }
 
 /// Takes the table from layer `e` to layer `e` + 1.
-fn fill(adj: &[u64], layers: &[u64], counts: &mut [u64], e: usize)
+pub fn fill(adj: &[u64], layers: &[u64], counts: &mut [u64], e: usize)
     requires { ⌜ Sized (now adj) (now layers) (now counts) (e + 1) ⌝ }
     requires { ⌜ Disjoint (now layers) (e + 1) ⌝ }
     requires { ⌜ Table (now adj) (now layers) e (now counts) ⌝ }
     ensures { λ _. ⌜ Table (now (adj .entry)) (now (layers .entry)) (e + 1) (now (counts .exit)) ⌝ }
+    ensures { λ _. ⌜ Others (getD (now (layers .entry)) (e + 1) 0) (now (counts .entry)) (now (counts .exit)) ⌝ }
 {
     let mut rest = layers[e + 1];
     while rest != 0 {

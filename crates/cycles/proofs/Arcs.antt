@@ -26,7 +26,8 @@ use Rattle.cycles.proofs.Carry.{holds-flip, graphOf, simple, joins-grap
 use Rattle.cycles.proofs.Shorter.{relevant-not-shorter, graph-shorter}
 use Rattle.cycles.proofs.Edges.{in-visits, edges-bonds}
 
-distinct-once : (u : ℕ) (p : Steps) → Distinct u p → Once (u ∷ atoms p)
+-- The atoms of a walk that meets none twice.
+pub distinct-once : (u : ℕ) (p : Steps) → Distinct u p → Once (u ∷ atoms p)
 distinct-once u end d = let none : u ∈ [] → ⊥ = elim [ ] in Once.more none Once.none
 distinct-once u (go k w p) d = Once.more (λ i. clash (in-visits w p u i) (d .0)) (distinct-once w p (d .1))
 

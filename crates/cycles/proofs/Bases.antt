@@ -88,11 +88,13 @@ module _ (c : Compound) (sound : Sound c) where
       let (B, b) = closed-basis c sound in
       full-stops bondSets (len c) (Closed c) i h b (e ∙ sym (dimension-one-piece c sound piece some B b)) (relevant-no-sum r)
 
-less-first : {a b : ℕ} {xs ys : List ℕ} → Less (a ∷ xs) (b ∷ ys) → a ≤ b
+-- The first numbers of keys in order are in order.
+pub less-first : {a b : ℕ} {xs ys : List ℕ} → Less (a ∷ xs) (b ∷ ys) → a ≤ b
 less-first (Less.here h) = omega arith
 less-first (Less.later l) = omega arith
 
-ascending-long : {f : Family} {fs : List Family} → Ascending (f ∷ fs) → All (λ g. f .long ≤ g .long) fs
+-- Families that come later are no shorter.
+pub ascending-long : {f : Family} {fs : List Family} → Ascending (f ∷ fs) → All (λ g. f .long ≤ g .long) fs
 ascending-long Ascending.one = All.nil
 ascending-long (Ascending.more l a) = let h = less-first l in All.cons h (all-map (λ g q. omega arith) (ascending-long a))
 

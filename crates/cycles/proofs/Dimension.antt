@@ -153,7 +153,8 @@ module _ (c : Compound) (sound : Sound c) where
   pub ends-differ : (k : ℕ) → k < m c → one c k ≢ other c k
   ends-differ k h e = sound .no-loop k (one c k) (Joins.given h refl (sym e))
 
-  degreeTo-outside : (S a : ℕ) → c .n ≤ a → (k : ℕ) → k ≤ m c → degreeTo c k S a ≡ 0
+  -- An atom that the compound does not have meets no bond.
+  pub degreeTo-outside : (S a : ℕ) → c .n ≤ a → (k : ℕ) → k ≤ m c → degreeTo c k S a ≡ 0
   unfolding degreeTo
   degreeTo-outside S a h zero l = refl
   degreeTo-outside S a h (suc k) l =

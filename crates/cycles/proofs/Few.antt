@@ -1,6 +1,6 @@
--- A compound has no more bonds than pairs of atoms: so at most 96 bonds leave a cyclomatic number of at most 82.
+-- Bonds that join different pairs of names are no more than there are pairs: so at most 96 bonds leave a cyclomatic number of at most 82.
 use mathlib.Core.Path.{_≡_, refl, sym, ap, _∙_}
-use mathlib.Core.Logic.{⊎-elim, _≢_}
+use mathlib.Core.Logic.{_⊎_, inl, inr, ⊎-elim, _≢_}
 use Prim.Native.Nat.{ℕ, zero, suc, _+_, _-_, _*_, _^_, _<_, _≤_, min, max}
 use native.Mathlib.Omega.{arith}
 use lib.Pow.{pow-lt}
@@ -21,7 +21,8 @@ unfoldable pub pairs : ℕ → ℕ
 pairs zero = 0
 pairs (suc n) = n + pairs n
 
-pairs-suc : (n : ℕ) → 2 * pairs (suc n) ≡ suc n * n
+-- Twice the pairs of n + 1 numbers.
+pub pairs-suc : (n : ℕ) → 2 * pairs (suc n) ≡ suc n * n
 unfolding pairs
 pairs-suc zero = refl
 pairs-suc (suc n) = omega (arith, pairs-suc n)
@@ -40,50 +41,62 @@ pairs-mono i (suc n) h =
     (λ (l : suc n ≤ i). let e : i ≡ suc n = omega arith in rw e (omega arith))
     (lt-or-ge i (suc n))
 
-module _ (c : Compound) (sound : Sound c) where
-  -- The lower and the higher end of bond k.
+-- Two functions name two different numbers below N for each k < M, and no two k the same two, either way round.
+pub record Pairing (f g : ℕ → ℕ) (M N : ℕ) : Type 0 where
+  pub first-lt : (k : ℕ) → k < M → f k < N
+  pub second-lt : (k : ℕ) → k < M → g k < N
+  pub differ : (k : ℕ) → k < M → f k ≢ g k
+  pub straight : (i j : ℕ) → i < M → j < M → f i ≡ f j → g i ≡ g j → i ≡ j
+  pub crossed : (i j : ℕ) → i < M → j < M → f i ≡ g j → g i ≡ f j → i ≡ j
+
+module _ {f g : ℕ → ℕ} {M N : ℕ} (p : Pairing f g M N) where
+  -- The lower and the higher of the two.
   low : ℕ → ℕ
-  low k = min (one c k) (other c k)
+  low k = min (f k) (g k)
 
   high : ℕ → ℕ
-  high k = max (one c k) (other c k)
+  high k = max (f k) (g k)
 
-  low-high : (k : ℕ) → k < m c → low k < high k
+  low-high : (k : ℕ) → k < M → low k < high k
   unfolding low high
-  low-high k h = omega (arith, ends-differ c sound k h)
+  low-high k h = omega (arith, p .differ k h)
 
-  high-lt : (k : ℕ) → k < m c → high k < c .n
+  high-lt : (k : ℕ) → k < M → high k < N
   unfolding high
-  high-lt k h = omega (arith, one-lt c sound k h, other-lt c sound k h)
-
-  joins-pair : (k : ℕ) → k < m c → Joins c k (low k) (high k)
-  unfolding low high
-  joins-pair k h =
-      ⊎-elim
-      (λ (l : one c k < other c k). Joins.given h (omega arith) (omega arith))
-      (λ (l : other c k ≤ one c k). Joins.turned h (omega arith) (omega arith))
-      (lt-or-ge (one c k) (other c k))
+  high-lt k h = omega (arith, p .first-lt k h, p .second-lt k h)
 
   -- Pairs by their higher member, then by the lower.
   code : ℕ → ℕ
   code k = pairs (high k) + low k
 
-  code-lt : (k : ℕ) → k < m c → code k < pairs (suc (high k))
+  code-lt : (k : ℕ) → k < M → code k < pairs (suc (high k))
   unfolding code pairs
   code-lt k h = omega (arith, low-high k h)
 
-  code-far : (i j : ℕ) → i < m c → high i < high j → code i ≢ code j
+  code-far : (i j : ℕ) → i < M → high i < high j → code i ≢ code j
   unfolding code
   code-far i j h l e = omega (arith, code-lt i h, pairs-mono (suc (high i)) (high j) l)
 
-  same-pair : (i j : ℕ) → i < m c → j < i → code j ≡ code i → high j ≢ high i
+  same-two : (i j : ℕ) → low i ≡ low j → high i ≡ high j → ((f i ≡ f j) × (g i ≡ g j)) ⊎ ((f i ≡ g j) × (g i ≡ f j))
+  unfolding low high
+  same-two i j e q =
+      ⊎-elim
+      (λ (l : f i < g i).
+      ⊎-elim (λ (u : f j < g j). inl (omega arith, omega arith)) (λ (u : g j ≤ f j). inr (omega arith, omega arith)) (lt-or-ge (f j) (g j)))
+      (λ (l : g i ≤ f i).
+      ⊎-elim (λ (u : f j < g j). inr (omega arith, omega arith)) (λ (u : g j ≤ f j). inl (omega arith, omega arith)) (lt-or-ge (f j) (g j)))
+      (lt-or-ge (f i) (g i))
+
+  same-pair : (i j : ℕ) → i < M → j < i → code j ≡ code i → high j ≢ high i
   unfolding code
   same-pair i j h l e q =
       let lows : low j ≡ low i = omega (arith, ap pairs q) in
-      let pair : Joins c j (low i) (high i) = rw (← lows, ← q) (joins-pair j (omega arith)) in
-      omega (arith, sound .once j i (low i) (high i) pair (joins-pair i h))
+      ⊎-elim
+      (λ t. let d = p .straight j i (omega arith) h (t .0) (t .1) in omega arith)
+      (λ t. let d = p .crossed j i (omega arith) h (t .0) (t .1) in omega arith)
+      (same-two j i lows q)
 
-  code-once : (i j : ℕ) → i < m c → j < i → code j ≢ code i
+  code-once : (i j : ℕ) → i < M → j < i → code j ≢ code i
   code-once i j h l e =
       ⊎-elim
       (λ (u : high j < high i). absurd (code-far j i (omega arith) u e))
@@ -94,22 +107,39 @@ module _ (c : Compound) (sound : Sound c) where
       (lt-or-ge (high i) (high j)))
       (lt-or-ge (high j) (high i))
 
-  bonds-pairs : m c ≤ pairs (c .n)
-  bonds-pairs = pigeonhole code (pairs (c .n)) (m c) (λ k h. omega (arith, code-lt k h, pairs-mono (suc (high k)) (c .n) (high-lt k h))) code-once
+  -- So many different pairs of numbers below N are no more than there are.
+  pub pairing-bound : M ≤ pairs N
+  pairing-bound = pigeonhole code (pairs N) M (λ k h. omega (arith, code-lt k h, pairs-mono (suc (high k)) N (high-lt k h))) code-once
+
+-- At most 14 names have at most 91 pairs; from 15 names on, 96 bonds are too few.
+pub few-names : (M N : ℕ) → M ≤ pairs N → M ≤ 96 → M + 1 ≤ 82 + N
+unfolding pairs
+few-names M N b h =
+    ⊎-elim
+    (λ (l : N < 14). omega (arith, pairs-mono N 13 (omega arith)))
+    (λ (l : 14 ≤ N).
+    ⊎-elim
+    (λ (u : N < 15). omega (arith, pairs-mono N 14 (omega arith)))
+    (λ (u : 15 ≤ N). omega arith)
+    (lt-or-ge N 15))
+    (lt-or-ge N 14)
+
+module _ (c : Compound) (sound : Sound c) where
+  -- The bonds name different pairs of atoms.
+  bonds-pairing : Pairing (one c) (other c) (m c) (c .n)
+  bonds-pairing =
+      record {
+        first-lt = one-lt c sound;
+        second-lt = other-lt c sound;
+        differ = ends-differ c sound;
+        straight = λ i j h l e f. sound .once i j (one c j) (other c j) (Joins.given h e f) (Joins.given l refl refl);
+        crossed = λ i j h l e f. sound .once i j (other c j) (one c j) (Joins.given h e f) (Joins.turned l refl refl);
+      }
 
   -- Each bond joins two of the atoms, and no two bonds join the same two.
   pub pairs-bound : 2 * m c ≤ c .n * (c .n - 1)
-  pairs-bound = omega (arith, bonds-pairs, pairs-double (c .n))
+  pairs-bound = omega (arith, pairing-bound bonds-pairing, pairs-double (c .n))
 
-  -- At most 14 atoms have at most 91 bonds; from 15 atoms on, 96 bonds are too few.
+  -- At most 96 bonds leave a cyclomatic number of at most 82.
   pub cyclomatic-few : m c ≤ 96 → cyclomatic c ≤ 82
-  unfolding pairs
-  cyclomatic-few h =
-      ⊎-elim
-      (λ (l : c .n < 14). omega (arith, bonds-pairs, pairs-mono (c .n) 13 (omega arith)))
-      (λ (l : 14 ≤ c .n).
-      ⊎-elim
-      (λ (u : c .n < 15). omega (arith, bonds-pairs, pairs-mono (c .n) 14 (omega arith)))
-      (λ (u : 15 ≤ c .n). omega arith)
-      (lt-or-ge (c .n) 15))
-      (lt-or-ge (c .n) 14)
+  cyclomatic-few h = omega (arith, few-names (m c) (c .n) (pairing-bound bonds-pairing) h)

@@ -8,15 +8,15 @@ use lib.ListN.{length}
 use Rattle.spans.specs.Elements.{_∈_, Once}
 use Rattle.spans.specs.Basis.{Holding}
 use Rattle.spans.proofs.Marking.{all-element}
-use Rattle.cycles.specs.Compound.{Compound, m, Sound, OnePiece}
+use Rattle.cycles.specs.Compound.{Compound, m, Sound}
 use Rattle.cycles.specs.Ring.{Relevant}
 use Rattle.cycles.specs.Basis.{Minimum, Interchangeable}
 use Rattle.cycles.specs.Rows.{ClassRow, At, Report, Right}
 use Rattle.cycles.proofs.PathsDecide.{not-in-none, in-cases}
 use Rattle.cycles.proofs.Families.{prototype-member}
 use Rattle.cycles.proofs.MembersLists.{once-length-le}
-use Rattle.cycles.proofs.Few.{cyclomatic-few}
-use Rattle.cycles.proofs.Bases.{relevant-in-some-minimum, marked-minimum, marked-relevant, marked-count}
+use Rattle.cycles.proofs.Bases.{relevant-in-some-minimum, marked-minimum, marked-relevant}
+use Rattle.cycles.proofs.PiecesBases.{basis-few}
 use Rattle.cycles.proofs.Swaps.{interchangeable-same-length}
 use Rattle.cycles.proofs.Ranks.{in-map, at-exists, InRow, relevant-in-row, same-class-iff, class-row-of, class-rows-length, relative-rank-in-every-minimum}
 
@@ -116,10 +116,10 @@ module _ (c : Compound) (sound : Sound c) (rank : ℕ → ℕ) (injective : (a b
       let p = picked (R .classes) (omega arith) in
       omega (arith, p .count, once-length-le (p .once) (λ C i. p .of C i .2 .marked))
 
-  -- At most 82 prototypes are marked.
-  pub marked-few : OnePiece c → 0 < c .n → m c ≤ 96 → length (right .basis) ≤ 82
-  marked-few piece some few = omega (arith, marked-count c sound rank injective right piece some, cyclomatic-few c sound few)
+  -- At most 82 prototypes are marked, in however many pieces the compound is.
+  pub marked-few : m c ≤ 96 → length (right .basis) ≤ 82
+  marked-few few = basis-few c sound few (marked-minimum c sound rank injective right .basis)
 
   -- "There are at most 82 classes, since 96 bonds on fewer than 15 atoms can't be had."
-  pub classes-few : OnePiece c → 0 < c .n → m c ≤ 96 → R .classes ≤ 82
-  classes-few piece some few = omega (arith, classes-le-marked, marked-few piece some few)
+  pub classes-few : m c ≤ 96 → R .classes ≤ 82
+  classes-few few = omega (arith, classes-le-marked, marked-few few)

@@ -52,7 +52,7 @@ module _ (c : Compound) (sound : Sound c) (rank : ℕ → ℕ) (injective : (a b
   module _ {f : Family} {d : ℕ} {link : List ℕ} (candidate : Candidate c rank f d link) where
     module _ (kept : Kept c rank f) where
       -- In a kept family no two paths cross.
-      kept-apart : {P Q : List ℕ} {S : ℕ} → Made c sound rank f d link P Q S → (a : ℕ) → a ∈ P → a ∈ Q → a ≡ f .r
+      pub kept-apart : {P Q : List ℕ} {S : ℕ} → Made c sound rank f d link P Q S → (a : ℕ) → a ∈ P → a ∈ Q → a ≡ f .r
       kept-apart {S} s =
           ⊎-elim (λ apart. apart) (λ w. absurd (crossed (crossing-shorter c sound rank s (w .1) (w .2) (w .3)))) (apart-or-crossing c sound rank s)
         where
@@ -66,7 +66,8 @@ module _ (c : Compound) (sound : Sound c) (rank : ℕ → ℕ) (injective : (a b
               relevant-not-shorter c (kept .relevant)
               (subst (λ (n : ℕ). Shorter c n K) (sym (prototype-member c sound rank (kept .prototype) .long)) all)
 
-      made-kept-member : {P Q : List ℕ} {S : ℕ} → Made c sound rank f d link P Q S → Member c rank f S
+      -- What any two paths of a kept family make up is a member.
+      pub made-kept-member : {P Q : List ℕ} {S : ℕ} → Made c sound rank f d link P Q S → Member c rank f S
       made-kept-member s = let w = apart-ring c sound rank s (kept-apart s) in made-member c sound rank s (w .ring) (w .long)
 
       all-pairs : {a b : ℕ} → AllDown (f .r) (f .p) d a → AllDown (f .r) (f .q) d b → Size c rank f (a * b)

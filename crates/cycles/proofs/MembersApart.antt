@@ -47,10 +47,10 @@ module _ (c : Compound) where
       let lower = bitXor U′ D′ in
       rw e (omega (arith, degree-sum U D a, degree-sum U′ D′ a, degree-sum upper lower a, degree-sum (bitXor upper lower) L a))
 
-is-same : (u : ℕ) → is u u ≡ 1
+pub is-same : (u : ℕ) → is u u ≡ 1
 is-same u = ap (λ (b : Bool). cond b 1 0) (eq-eqb u u refl)
 
-is-other : (u a : ℕ) → (u ≡ a → ⊥) → is u a ≡ 0
+pub is-other : (u a : ℕ) → (u ≡ a → ⊥) → is u a ≡ 0
 is-other u a h = ap (λ (b : Bool). cond b 1 0) (ne-eqb u a h)
 
 module _ (c : Compound) (sound : Sound c) where

@@ -49,10 +49,12 @@ highest-below P dec rank (suc n) = go (highest-below P dec rank n) (dec n)
     go (inr none) (no k) = inr (upto {A = λ i. P i → ⊥} k none)
 
 module _ (c : Compound) where
-  meets-one : (k : ℕ) → meets c k (one c k) ≡ 1
+  -- The first end of a bond meets it.
+  pub meets-one : (k : ℕ) → meets c k (one c k) ≡ 1
   meets-one k = ap (λ (b : Bool). cond (b || eqb (other c k) (one c k)) 1 0) (eq-eqb (one c k) (one c k) refl)
 
-  degreeTo-pos : (n k S a : ℕ) → k < n → bit S k ≡ 1 → meets c k a ≡ 1 → 0 < degreeTo c n S a
+  -- An atom meets a set that holds one of its bonds.
+  pub degreeTo-pos : (n k S a : ℕ) → k < n → bit S k ≡ 1 → meets c k a ≡ 1 → 0 < degreeTo c n S a
   unfolding degreeTo
   degreeTo-pos zero k S a h b e = absurd (omega arith)
   degreeTo-pos (suc n) k S a h b e =
@@ -60,7 +62,8 @@ module _ (c : Compound) where
       (λ g. let same : k ≡ n = omega arith in
       let here : bit S n * meets c n a ≡ 1 = subst (λ (i : ℕ). bit S i * meets c i a ≡ 1) same (rw (b, e)) in omega arith) (lt-or-ge k n)
 
-  ring-atom : {C : ℕ} → Ring c C → (a : ℕ) × (0 < degree c C a)
+  -- A ring meets an atom.
+  pub ring-atom : {C : ℕ} → Ring c C → (a : ℕ) × (0 < degree c C a)
   ring-atom {C} ring =
       let low = trailing (m c) C (ring .some) (ring .closed .bonds) in
       (_, degreeTo-pos (m c) _ C _ (low .small) (low .here) (meets-one _))
@@ -91,7 +94,8 @@ advance-sum K U J S c w = simp (c, w, sums)
 once-rest : {x : ℕ} {xs : List ℕ} → Once (x ∷ xs) → Once xs
 once-rest (Once.more fresh once) = once
 
-fresh-other : {x y : ℕ} {xs : List ℕ} → Once (x ∷ xs) → y ∈ xs → x ≡ y → ⊥
+-- An element of the others is not the first.
+pub fresh-other : {x y : ℕ} {xs : List ℕ} → Once (x ∷ xs) → y ∈ xs → x ≡ y → ⊥
 fresh-other {xs} (Once.more fresh once) h e = fresh (subst (λ (z : ℕ). z ∈ xs) (sym e) h)
 
 odd-or-even : (k : ℕ) → 2 ≤ k → ((d : ℕ) × (k ≡ 2 * d + 1)) ⊎ ((d : ℕ) × (k ≡ 2 * suc d))
@@ -285,7 +289,8 @@ module _ (c : Compound) (sound : Sound c) (rank : ℕ → ℕ) where
         (λ ge. found-even (omega arith) (joins-sym c toQ) (joins-sym c toX) beforeQ beforeX beforeP downX downQ (w .down) (below .edges)
         (w .edges) (turn-link (w .U) (bitXor (2 ^ w .K) S) (2 ^ i) (2 ^ j) total) (size ∙ long)) (lt-or-ge t q)
 
-  around-found : {C r : ℕ} (w : Around c sound C r) → ((a : ℕ) → a ∈ w .path → Precedes c rank a r) → Found C
+  -- A ring told from the atom r, whose other atoms precede r, is what two paths down to r make up.
+  pub around-found : {C r : ℕ} (w : Around c sound C r) → ((a : ℕ) → a ∈ w .path → Precedes c rank a r) → Found C
   around-found {C} {r} w before = ⊎-elim odd even (odd-or-even (len c C) (omega (arith, w .long, w .three)))
     where
       stop : (d : ℕ) → 2 * d ≤ len c C → Stop r (len c C) d C

@@ -27,7 +27,7 @@ module _ (c : Compound) where
     here : {a b : ℕ} {path : List ℕ} → Joins c k a b → Uses k (a ∷ b ∷ path)
     later : {a : ℕ} {path : List ℕ} → Uses k path → Uses k (a ∷ path)
 
-  joins-left : {k a b x y : ℕ} → Joins c k a b → Joins c k x y → (a ≡ x) ⊎ (a ≡ y)
+  pub joins-left : {k a b x y : ℕ} → Joins c k a b → Joins c k x y → (a ≡ x) ⊎ (a ≡ y)
   joins-left (Joins.given h e f) (Joins.given h′ e′ f′) = inl (sym e ∙ e′)
   joins-left (Joins.given h e f) (Joins.turned h′ e′ f′) = inr (sym e ∙ f′)
   joins-left (Joins.turned h e f) (Joins.given h′ e′ f′) = inr (sym e ∙ f′)
@@ -90,7 +90,8 @@ module _ (c : Compound) where
         absurd (down-near c rank down s (omega (arith, distance-unique c t far)) h)
     down-same (Down.step before far bond down) (_∈_.later h) (_∈_.later g) s t = down-same down h g s t
 
-    down-uses : {r u t d k : ℕ} {P : List ℕ} → Down c rank r t d P → Joins c k u t → Uses k (u ∷ P)
+    -- A bond to the first atom of a path is used by the longer path.
+    pub down-uses : {r u t d k : ℕ} {P : List ℕ} → Down c rank r t d P → Joins c k u t → Uses k (u ∷ P)
     down-uses Down.top j = Uses.here j
     down-uses (Down.step before far bond down) j = Uses.here j
 

@@ -1,5 +1,5 @@
 -- Lists without repeats: how long they are, and the list of what all pairs make.
-use mathlib.Core.Path.{_≡_, refl, ap, _∙_, subst}
+use mathlib.Core.Path.{_≡_, refl, sym, ap, _∙_, subst}
 use mathlib.Core.List.{List, [], _∷_, _++_}
 use mathlib.Core.Logic.{_↔_, ⊎-elim}
 use Prim.Native.Nat.{suc, _*_, _≤_}
@@ -11,27 +11,41 @@ use Rattle.spans.proofs.Lists.{Pick, in-left, in-right, in-append}
 use Rattle.cycles.proofs.PathsDecide.{not-in-none}
 
 module _ {X : Type 0} where
-  in-pick : {x : X} {ys : List X} → x ∈ ys → (zs : List X) × Pick ys x zs
+  -- An element of a list, and the others.
+  pub in-pick : {x : X} {ys : List X} → x ∈ ys → (zs : List X) × Pick ys x zs
   in-pick _∈_.first = (_, Pick.here)
   in-pick (_∈_.later h) = (_, Pick.there (in-pick h .1))
 
-  pick-length : {x : X} {ys zs : List X} → Pick ys x zs → length ys ≡ suc (length zs)
+  pub pick-length : {x : X} {ys zs : List X} → Pick ys x zs → length ys ≡ suc (length zs)
   pick-length Pick.here = refl
   pick-length (Pick.there p) = ap suc (pick-length p)
 
-  pick-others : {a x : X} {ys zs : List X} → Pick ys x zs → a ∈ ys → (a ≡ x → ⊥) → a ∈ zs
+  -- An element that is not the one picked is among the others.
+  pub pick-others : {a x : X} {ys zs : List X} → Pick ys x zs → a ∈ ys → (a ≡ x → ⊥) → a ∈ zs
   pick-others Pick.here _∈_.first other = absurd (other refl)
   pick-others Pick.here (_∈_.later h) other = h
   pick-others (Pick.there p) _∈_.first other = _∈_.first
   pick-others (Pick.there p) (_∈_.later h) other = _∈_.later (pick-others p h other)
 
+module _ {X Y : Type 0} where
+  -- Elements with a key each, no two with the same, are no more than the keys.
+  pub keyed-length-le : {xs : List X} {keys : List Y} (Key : X → Y → Type 0) → ((x y : X) (k : Y) → Key x k → Key y k → x ≡ y) → Once xs
+      → ((x : X) → x ∈ xs → (k : Y) × (k ∈ keys) × Key x k) → length xs ≤ length keys
+  keyed-length-le Key same Once.none find = omega arith
+  keyed-length-le {keys = keys} Key same (Once.more {x = x} {xs = xs} fresh once) find =
+      let (k, i, e) = find x _∈_.first in
+      let pick = in-pick i in
+      let rest = keyed-length-le Key same once (λ y h. other e (pick .1) h (find y (_∈_.later h))) in
+      omega (arith, pick-length (pick .1))
+    where
+      other : {k : Y} {zs : List Y} {y : X} → Key x k → Pick keys k zs → y ∈ xs → (l : Y) × (l ∈ keys) × Key y l → (l : Y) × (l ∈ zs) × Key y l
+      other {k} {y = y} e pick h (l, i, d) =
+          (l, pick-others pick i (λ q. fresh (subst (λ (z : X). z ∈ xs) (same y x k (subst (Key y) q d) e) h)), d)
+
+module _ {X : Type 0} where
   -- A list without repeats is no longer than one that has all its elements.
   pub once-length-le : {xs ys : List X} → Once xs → ((a : X) → a ∈ xs → a ∈ ys) → length xs ≤ length ys
-  once-length-le Once.none inside = omega arith
-  once-length-le (Once.more {x = x} {xs = xs} fresh once) inside =
-      let pick = in-pick (inside x _∈_.first) in
-      let rest = once-length-le once (λ a h. pick-others (pick .1) (inside a (_∈_.later h)) (λ e. fresh (subst (λ (y : X). y ∈ xs) e h))) in
-      omega (arith, pick-length (pick .1))
+  once-length-le once inside = keyed-length-le _≡_ (λ x y k e h. e ∙ sym h) once (λ a h. (a, inside a h, refl))
 
   -- Lists without repeats that have the same elements are equally long.
   pub same-elements-length : {xs ys : List X} → Once xs → Once ys → ((a : X) → (a ∈ xs) ↔ (a ∈ ys)) → length xs ≡ length ys

@@ -30,7 +30,7 @@ pub in-cases : {X : Type 0} {a b : X} {Q : List X} → a ∈ (b ∷ Q) → (b �
 in-cases _∈_.first = inl refl
 in-cases (_∈_.later h) = inr h
 
-in-dec : (a : ℕ) (Q : List ℕ) → Dec (a ∈ Q)
+pub in-dec : (a : ℕ) (Q : List ℕ) → Dec (a ∈ Q)
 in-dec a [] = no not-in-none
 in-dec a (b ∷ Q) =
     map-dec (elim [ inl e ↦ subst (λ (x : ℕ). a ∈ (x ∷ Q)) (sym e) _∈_.first | inr h ↦ _∈_.later h ]) in-cases
@@ -73,7 +73,8 @@ module _ (P : ℕ → Type 0) (dec : (i : ℕ) → Dec (P i)) where
       go (inr none) (yes p) = inl (record { at = n; below = omega arith; holds = p; least = at-least none })
       go (inr none) (no k) = inr (λ i h p. let e : i ≡ n = omega (arith, at-least none i p) in k (subst P e p))
 
-  some-dec : (n : ℕ) → ((i : ℕ) → P i → i < n) → Dec ((i : ℕ) × P i)
+  -- Whether a number has P is decided, where those that have it are below n.
+  pub some-dec : (n : ℕ) → ((i : ℕ) → P i → i < n) → Dec ((i : ℕ) × P i)
   some-dec n bound = elim (least-below n) [ inl l ↦ yes (l .at, l .holds) | inr none ↦ no (λ p. none (p .0) (bound (p .0) (p .1)) (p .1)) ]
 
   none-dec : (n : ℕ) → Dec ((i : ℕ) → i < n → P i → ⊥)
@@ -125,7 +126,8 @@ module _ (c : Compound) where
         out : {a : ℕ} → Walk c b a (suc steps) → (next : ℕ) × (Bonded c a next × Walk c b next steps)
         out (Walk.step bond walk) = (_, (bond, walk))
 
-    distance-dec : (a b d : ℕ) → Dec (Distance c a b d)
+    -- Whether two atoms are at distance d is decided.
+    pub distance-dec : (a b d : ℕ) → Dec (Distance c a b d)
     distance-dec a b d =
         map-dec (λ p. record { walk = p .0; least = λ steps w. least (p .1) steps w (lt-or-ge steps d) })
         (λ far. (far .walk, λ steps h w. omega (arith, far .least steps w)))

@@ -34,7 +34,7 @@ module _ (c : Compound) where
   pub distance-unique : {a b d e : ℕ} → Distance c a b d → Distance c a b e → d ≡ e
   distance-unique {d} {e} s t = omega (arith, s .least e (t .walk), t .least d (s .walk))
 
-  distance-here : (a : ℕ) → Distance c a a 0
+  pub distance-here : (a : ℕ) → Distance c a a 0
   distance-here a = record { walk = Walk.here; least = λ steps w. omega arith }
 
 module _ (c : Compound) (rank : ℕ → ℕ) where

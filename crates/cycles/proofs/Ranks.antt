@@ -74,7 +74,8 @@ module _ {X : Type 0} where
   at-end [] x = At.here
   at-end (y ∷ xs) x = At.later (at-end xs x)
 
-  at-snoc : (xs : List X) {i : ℕ} {x y : X} → At (xs ++ (y ∷ [])) i x → At xs i x ⊎ ((i ≡ length xs) × (x ≡ y))
+  -- What stands in a longer list stands in the list or at its end.
+  pub at-snoc : (xs : List X) {i : ℕ} {x y : X} → At (xs ++ (y ∷ [])) i x → At xs i x ⊎ ((i ≡ length xs) × (x ≡ y))
   at-snoc [] At.here = inr (refl, refl)
   at-snoc (z ∷ xs) At.here = inl At.here
   at-snoc (z ∷ xs) (At.later a) = go (at-snoc xs a)

@@ -82,7 +82,8 @@ module _ (c : Compound) (sound : Sound c) where
         (swap-trans bondSets (RelevantOf bondSets (len c) (Closed c) k) S (interchangeable-swap r d a) (interchangeable-swap q e b)
         (relevant-no-sum c sound q, e))
 
-    near-interchangeable : {C D : ℕ} → Relevant c C → Relevant c D → len c C ≡ k → len c D ≡ k → Short bondSets (len c) (Closed c) k (bitXor C D)
+    -- Relevant rings of length k that differ by shorter closed sets are interchangeable.
+    pub near-interchangeable : {C D : ℕ} → Relevant c C → Relevant c D → len c C ≡ k → len c D ≡ k → Short bondSets (len c) (Closed c) k (bitXor C D)
         → Interchangeable c C D
     unfolding bondSets
     near-interchangeable r q e d s =

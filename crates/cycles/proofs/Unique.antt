@@ -5,7 +5,7 @@ use mathlib.Core.Logic.{_⊎_, inl, inr}
 use Prim.Native.Nat.{ℕ, _<_}
 use native.Mathlib.Omega.{arith}
 use lib.ListN.{length}
-use Rattle.spans.specs.Elements.{_∈_}
+use Rattle.spans.specs.Elements.{_∈_, Once}
 use Rattle.spans.specs.Basis.{All}
 use Rattle.spans.proofs.Lists.{all-map}
 use Rattle.spans.proofs.Marking.{all-element}
@@ -14,9 +14,9 @@ use Rattle.cycles.specs.Family.{Family, Prototype, Size}
 use Rattle.cycles.specs.Rows.{Row, key, Less, Ascending, At, Marks, SumOf, Together, Classes, Report, Right}
 use Rattle.cycles.proofs.PathsDecide.{not-in-none, in-cases}
 use Rattle.cycles.proofs.Families.{prototype-unique}
-use Rattle.cycles.proofs.Bases.{ascending-rest}
 use Rattle.cycles.proofs.Ranks.{at-element, together-sym, together-trans, Apart, apart-none, apart-more}
 use Rattle.cycles.proofs.Members.{size-unique}
+use Rattle.cycles.proofs.Bases.{ascending-rest}
 
 -- ---- the order of the families
 less-differ : {xs ys : List ℕ} → Less xs ys → xs ≡ ys → ⊥
@@ -34,35 +34,56 @@ pub ascending-less : {f : Family} {fs : List Family} → Ascending (f ∷ fs) �
 ascending-less Ascending.one = All.nil
 ascending-less (Ascending.more l a) = All.cons l (all-map (λ g h. less-trans l h) (ascending-less a))
 
+module _ {X : Type 0} (by : X → List ℕ) where
+  -- Each element comes before all those after it, by its key.
+  pub data Ordered : List X → Type 0 where
+    nil : Ordered []
+    cons : {x : X} {xs : List X} → All (λ y. Less (by x) (by y)) xs → Ordered xs → Ordered (x ∷ xs)
+
+  ordered-head : {x y : X} {xs ys : List X} → All (λ z. Less (by x) (by z)) xs → All (λ z. Less (by y) (by z)) ys → x ∈ (y ∷ ys) → y ∈ (x ∷ xs)
+      → x ≡ y
+  ordered-head {x} {y} {xs} {ys} a b i j = go (in-cases i) (in-cases j)
+    where
+      go : (y ≡ x) ⊎ (x ∈ ys) → (x ≡ y) ⊎ (y ∈ xs) → x ≡ y
+      go (inl e) q = sym e
+      go (inr u) (inl e) = e
+      go (inr u) (inr v) = absurd (less-differ (less-trans (all-element a v) (all-element b u)) refl)
+
+  ordered-tail : {x y : X} {xs ys : List X} → x ≡ y → All (λ z. Less (by x) (by z)) xs → ((z : X) → z ∈ (x ∷ xs) → z ∈ (y ∷ ys))
+      → (z : X) → z ∈ xs → z ∈ ys
+  ordered-tail {y} {xs} {ys} e a to z i = go (in-cases (to z (_∈_.later i)))
+    where
+      go : (y ≡ z) ⊎ (z ∈ ys) → z ∈ ys
+      go (inl d) = absurd (less-differ (all-element a (subst (λ (u : X). u ∈ xs) (sym (e ∙ d)) i)) refl)
+      go (inr j) = j
+
+  -- Two such lists that have the same elements are one.
+  pub ordered-unique : {xs ys : List X} → Ordered xs → Ordered ys → ((x : X) → x ∈ xs → x ∈ ys) → ((x : X) → x ∈ ys → x ∈ xs) → xs ≡ ys
+  ordered-unique Ordered.nil Ordered.nil to back = refl
+  ordered-unique Ordered.nil (Ordered.cons {x = y} b q) to back = absurd (not-in-none (back y _∈_.first))
+  ordered-unique (Ordered.cons {x = x} a p) Ordered.nil to back = absurd (not-in-none (to x _∈_.first))
+  ordered-unique (Ordered.cons {x = x} a p) (Ordered.cons {x = y} b q) to back =
+      let e = ordered-head a b (to x _∈_.first) (back y _∈_.first) in
+      ap₂ _∷_ e (ordered-unique p q (ordered-tail e a to) (ordered-tail (sym e) b back))
+
+ascending-ordered : {fs : List Family} → Ascending fs → Ordered key fs
+ascending-ordered Ascending.none = Ordered.nil
+ascending-ordered Ascending.one = Ordered.cons All.nil Ordered.nil
+ascending-ordered (Ascending.more l a) = Ordered.cons (ascending-less (Ascending.more l a)) (ascending-ordered a)
+
 -- In an ascending list the first stands nowhere else.
 pub ascending-fresh : {f : Family} {fs : List Family} → Ascending (f ∷ fs) → f ∈ fs → ⊥
 ascending-fresh a i = less-differ (all-element (ascending-less a) i) refl
 
-ascending-head : {f g : Family} {fs gs : List Family} → Ascending (f ∷ fs) → Ascending (g ∷ gs) → f ∈ (g ∷ gs) → g ∈ (f ∷ fs) → f ≡ g
-ascending-head {f} {g} {fs} {gs} a b i j = go (in-cases i) (in-cases j)
-  where
-    go : (g ≡ f) ⊎ (f ∈ gs) → (f ≡ g) ⊎ (g ∈ fs) → f ≡ g
-    go (inl e) q = sym e
-    go (inr u) (inl e) = e
-    go (inr u) (inr v) = absurd (less-differ (less-trans (all-element (ascending-less a) v) (all-element (ascending-less b) u)) refl)
-
-ascending-tail : {f g : Family} {fs gs : List Family} → f ≡ g → Ascending (f ∷ fs) → ((h : Family) → h ∈ (f ∷ fs) → h ∈ (g ∷ gs))
-    → (h : Family) → h ∈ fs → h ∈ gs
-ascending-tail {g} {fs} {gs} e a to h i = go (in-cases (to h (_∈_.later i)))
-  where
-    go : (g ≡ h) ⊎ (h ∈ gs) → h ∈ gs
-    go (inl d) = absurd (ascending-fresh a (subst (λ (x : Family). x ∈ fs) (sym (e ∙ d)) i))
-    go (inr j) = j
+-- No family stands twice in an ascending list.
+pub ascending-once : (fs : List Family) → Ascending fs → Once fs
+ascending-once [] a = Once.none
+ascending-once (f ∷ fs) a = Once.more (ascending-fresh a) (ascending-once fs (ascending-rest a))
 
 -- Two lists in order that have the same elements are one.
 pub ascending-unique : (fs gs : List Family) → Ascending fs → Ascending gs → ((f : Family) → f ∈ fs → f ∈ gs) → ((f : Family) → f ∈ gs → f ∈ fs)
     → fs ≡ gs
-ascending-unique [] [] a b to back = refl
-ascending-unique [] (g ∷ gs) a b to back = absurd (not-in-none (back g _∈_.first))
-ascending-unique (f ∷ fs) [] a b to back = absurd (not-in-none (to f _∈_.first))
-ascending-unique (f ∷ fs) (g ∷ gs) a b to back =
-    let e = ascending-head a b (to f _∈_.first) (back g _∈_.first) in
-    ap₂ _∷_ e (ascending-unique fs gs (ascending-rest a) (ascending-rest b) (ascending-tail e a to) (ascending-tail (sym e) b back))
+ascending-unique fs gs a b to back = ordered-unique key (ascending-ordered a) (ascending-ordered b) to back
 
 -- ---- the rows
 -- The rows of two lists, as many, are related one by one.

@@ -8,7 +8,9 @@ use borrow.Author.Tests.{lt-ltb, le-ltb}
 use lib.Bits.{bitAnd}
 use lib.Count.{trailingZeros}
 use lib.ListN.{length, getD, replicate, length-replicate}
+use Rattle.bondset.specs.declared.indexed.Index.{Index}
 use Rattle.bondset.specs.Sets.{members}
+use Rattle.bondset.proofs.IndexPush.{indexed-none}
 use Rattle.model.specs.Fold.{through, count}
 use Rattle.model.specs.Net.{Net, preceding}
 use Rattle.model.specs.Layer.{layersInto}
@@ -50,10 +52,10 @@ top-place adj touch layers counts layers′ k r pre words inside atoms bonds dee
 
 -- The layers are written, and then the candidates are tried.
 top-is : (n : ℕ) (adj touch : List ℕ) (from k r pre : ℕ) {s t : Going} (layers rows tags pivots labels holds out table sizes : List ℕ)
-    {layers′ rows′ tags′ pivots′ labels′ holds′ out′ sizes′ : List ℕ}
+    {layers′ rows′ tags′ pivots′ labels′ holds′ out′ sizes′ place′ : List ℕ}
     → pre ≡ preceding r → layers′ ≡ layersInto (neighbours adj) pre r (k / 2) layers
     → Tries (seek (graph n adj touch) (attempted (graph n adj touch) from) k r layers′) s rows tags pivots labels holds out sizes
-    t rows′ tags′ pivots′ labels′ holds′ out′ sizes′
+    t rows′ tags′ pivots′ labels′ holds′ out′ sizes′ place′
     → running layers′ (engineOf t rows′ tags′ pivots′ labels′ holds′ out′ table sizes′)
     ≡ topLoop (graph n adj touch) (attempted (graph n adj touch) from) preceding k r (running layers (engineOf s rows tags pivots labels holds out table sizes))
 unfolding topLoop
@@ -76,10 +78,10 @@ over-turn step pos at left e over = rw (left, e, at) (over-next step pos over)
 
 -- One top atom more.
 pub top-turn : (n : ℕ) (adj touch : List ℕ) (from k r pre : ℕ) {atoms x x′ : ℕ} {begin : Running Engine} {s t : Going}
-    (layers rows tags pivots labels holds out table sizes : List ℕ) {layers′ rows′ tags′ pivots′ labels′ holds′ out′ sizes′ : List ℕ}
+    (layers rows tags pivots labels holds out table sizes : List ℕ) {layers′ rows′ tags′ pivots′ labels′ holds′ out′ sizes′ place′ : List ℕ}
     → 0 < x → r ≡ trailingZeros 64 x → x′ ≡ bitAnd x (x - 1) → pre ≡ preceding r → layers′ ≡ layersInto (neighbours adj) pre r (k / 2) layers
     → Tries (seek (graph n adj touch) (attempted (graph n adj touch) from) k r layers′) s rows tags pivots labels holds out sizes
-    t rows′ tags′ pivots′ labels′ holds′ out′ sizes′
+    t rows′ tags′ pivots′ labels′ holds′ out′ sizes′ place′
     → Over (topLoop (graph n adj touch) (attempted (graph n adj touch) from) preceding k) atoms begin x
     (running layers (engineOf s rows tags pivots labels holds out table sizes))
     → Over (topLoop (graph n adj touch) (attempted (graph n adj touch) from) preceding k) atoms begin x′
@@ -92,21 +94,21 @@ top-turn n adj touch from k r pre layers rows tags pivots labels holds out table
 
 module _ (G : Net) (from full k : ℕ) {s : Going} {layers rows tags pivots labels holds out table sizes : List ℕ} where
   -- All top atoms are tried, and the length is settled.
-  pub round-is : {atoms : ℕ} {t : Going} {r : Tally} {layers′ rows′ tags′ pivots′ labels′ holds′ out′ sizes′ labels″ out″ table′ : List ℕ}
+  pub round-is : {atoms : ℕ} {t : Going} {r : Tally} {layers′ rows′ tags′ pivots′ labels′ holds′ out′ sizes′ labels″ out″ table′ place′ : List ℕ}
       → atoms ≡ tops G preceding → s .tally .marks < full
       → running layers′ (engineOf t rows′ tags′ pivots′ labels′ holds′ out′ table sizes′)
       ≡ through (topLoop G (attempted G from) preceding k) (members 64 atoms) (running layers (engineOf s rows tags pivots labels holds out table sizes))
-      → Sized rows′ tags′ pivots′
+      → Sized rows′ tags′ pivots′ place′ (t .tally .index) (t .tally .marks)
       → Settles k (s .tally .families) (t .tally) labels′ holds′ out′ table r labels″ out″ table′
       → Rounds (roundBy G from full k) s layers rows tags pivots labels holds out table sizes
-      (record { tally = r; rings = t .rings }) layers′ rows′ tags′ pivots′ labels″ holds′ out″ table′ sizes′
+      (record { tally = r; rings = t .rings }) layers′ rows′ tags′ pivots′ labels″ holds′ out″ table′ sizes′ place′
   unfolding lengthRound lengthLoop settledBy
-  round-is {t = t} {layers′ = layers′} {rows′ = rows′} {tags′ = tags′} {pivots′ = pivots′} {sizes′ = sizes′} at more tried sized settled = record {
+  round-is {t = t} {layers′ = layers′} {rows′ = rows′} {tags′ = tags′} {pivots′ = pivots′} {sizes′ = sizes′} {place′ = place′} at more tried sized settled = record {
     is =
         ap (λ (L : Ledger). running layers′ (record { ledger = L; rings = t .rings; sizes = sizes′ })) (settled .is rows′ tags′ pivots′)
         ∙ ap finish tried ∙ ap (λ (a : ℕ). finish (through turn (members 64 a) start)) at
         ∙ sym (ap (λ (b : Bool). cond b (finish (lengthLoop G (attempted G from) preceding k start)) start) (lt-ltb (s .tally .marks) full more));
-    sized = sized;
+    sized = settled .still rows′ tags′ pivots′ place′ sized;
     fit = settled .fit;
   }
     where
@@ -120,8 +122,8 @@ module _ (G : Net) (from full k : ℕ) {s : Going} {layers rows tags pivots labe
       finish x = running (x .layers) (settledBy k (engineOf s rows tags pivots labels holds out table sizes) (x .state))
 
   -- The basis is full: nothing is done.
-  pub round-full : full ≤ s .tally .marks → Sized rows tags pivots → Fit labels holds (s .tally)
-      → Rounds (roundBy G from full k) s layers rows tags pivots labels holds out table sizes s layers rows tags pivots labels holds out table sizes
+  pub round-full : full ≤ s .tally .marks → {place : List ℕ} → Sized rows tags pivots place (s .tally .index) (s .tally .marks) → Fit labels holds (s .tally)
+      → Rounds (roundBy G from full k) s layers rows tags pivots labels holds out table sizes s layers rows tags pivots labels holds out table sizes place
   unfolding lengthRound
   round-full l sized fit = record { is = rw (le-ltb (s .tally .marks) full l); sized = sized; fit = fit }
 
@@ -136,10 +138,20 @@ length-turn step {k} {start} {state} {next} l e upto =
 
 -- ---- from nothing
 
-pub sized-start : Sized (replicate 164 0) (replicate 164 0) (replicate 82 0)
-sized-start = record { rowsLong = length-replicate {A = ℕ} 164 0; tagsLong = length-replicate {A = ℕ} 164 0; pivotsLong = length-replicate {A = ℕ} 82 0 }
+-- No row is found.
+abbrev pub unindexed : Index
+unindexed = record { fresh = record { lo = 0; hi = 0 }; late = record { lo = 0; hi = 0 }; all = record { lo = 0; hi = 0 } }
 
-pub fit-start : Fit (replicate 82 0) (replicate 82 0) (record { marks = 0; short = 0; families = 0; classes = 0; total = 0 })
+pub sized-start : Sized (replicate 164 0) (replicate 164 0) (replicate 82 0) (replicate 128 0) unindexed 0
+sized-start = record {
+  rowsLong = length-replicate {A = ℕ} 164 0;
+  tagsLong = length-replicate {A = ℕ} 164 0;
+  pivotsLong = length-replicate {A = ℕ} 82 0;
+  placeLong = length-replicate {A = ℕ} 128 0;
+  indexed = indexed-none (replicate 164 0) (replicate 82 0) (replicate 128 0);
+}
+
+pub fit-start : Fit (replicate 82 0) (replicate 82 0) (record { marks = 0; short = 0; families = 0; classes = 0; total = 0; index = unindexed })
 fit-start = record {
   labelsLong = length-replicate {A = ℕ} 82 0;
   holdsLong = length-replicate {A = ℕ} 82 0;
@@ -151,11 +163,11 @@ fit-start = record {
 }
 
 -- What the lengths do to the state before the first is what the engine does.
-pub run-is : (G : Net) (from full : ℕ) {s r : Going} {out table sizes layers′ rows′ tags′ pivots′ labels′ holds′ out′ table′ sizes′ : List ℕ}
+pub run-is : (G : Net) (from full : ℕ) {s r : Going} {out table sizes layers′ rows′ tags′ pivots′ labels′ holds′ out′ table′ sizes′ place′ : List ℕ}
     → engineOf s (replicate 164 0) (replicate 164 0) (replicate 82 0) (replicate 82 0) (replicate 82 0) out table sizes ≡ begun out table sizes
     → Rounds (through (roundBy G from full) (count 3 (G .n - 2))) s
     (replicate 33 0) (replicate 164 0) (replicate 164 0) (replicate 82 0) (replicate 82 0) (replicate 82 0) out table sizes
-    r layers′ rows′ tags′ pivots′ labels′ holds′ out′ table′ sizes′
+    r layers′ rows′ tags′ pivots′ labels′ holds′ out′ table′ sizes′ place′
     → Runs G from full out table sizes r out′ table′ sizes′
 unfolding runBy
 run-is G from full {rows′ = rows′} {tags′ = tags′} {pivots′ = pivots′} {labels′ = labels′} {holds′ = holds′} e rounds = record {

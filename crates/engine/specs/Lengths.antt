@@ -50,10 +50,10 @@ module _ (G : Net) (from full : ℕ) where
 
 -- A length is tried and settled: the layers and the class rows change too.
 pub record Rounds (F : Running Engine → Running Engine) (s : Going) (layers rows tags pivots labels holds out table sizes : List ℕ)
-    (r : Going) (layers′ rows′ tags′ pivots′ labels′ holds′ out′ table′ sizes′ : List ℕ) : Type 0 where
+    (r : Going) (layers′ rows′ tags′ pivots′ labels′ holds′ out′ table′ sizes′ place′ : List ℕ) : Type 0 where
   pub is : running layers′ (engineOf r rows′ tags′ pivots′ labels′ holds′ out′ table′ sizes′)
       ≡ F (running layers (engineOf s rows tags pivots labels holds out table sizes))
-  pub sized : Sized rows′ tags′ pivots′
+  pub sized : Sized rows′ tags′ pivots′ place′ (r .tally .index) (r .tally .marks)
   pub fit : Fit labels′ holds′ (r .tally)
 
 -- All lengths were tried and settled, from nothing; the lists of the ledger that no caller sees are whatever they are.

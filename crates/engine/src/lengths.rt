@@ -8,6 +8,8 @@ ghost use Rattle.model.specs.Loops.{tops as topsOf};
 ghost use Rattle.ledger.specs.Held.{Sized, Fit};
 ghost use Rattle.engine.specs.Lengths.{roundBy, Rounds, Runs};
 ghost use Rattle.candidates.specs.Going.{graph};
+use bondset::BondSet;
+use bondset::indexed::Index;
 use candidates::Going;
 use counting::Count;
 use ledger::Tally;
@@ -26,6 +28,7 @@ fn round(
     rows: &mut [u64],
     tags: &mut [u64],
     pivots: &mut [u8],
+    place: &mut [u8],
     labels: &mut [u8],
     holds: &mut [u64],
     out: &mut [u8],
@@ -41,13 +44,13 @@ fn round(
     requires { ⌜ 128 ≤ length (now touch) ⌝ }
     requires { ⌜ 33 ≤ length (now layers) ⌝ }
     requires { ⌜ 64 ≤ length (now counts) ⌝ }
-    requires { ⌜ Sized (now rows) (now tags) (now pivots) ⌝ }
+    requires { ⌜ Sized (now rows) (now tags) (now pivots) (now place) (s .tally .index) (s .tally .marks) ⌝ }
     requires { ⌜ Fit (now labels) (now holds) (s .tally) ⌝ }
     ensures { λ r′. ⌜ Rounds (roundBy (graph n (now (adj .entry)) (now (touch .entry))) from full k) s
         (now (layers .entry)) (now (rows .entry)) (now (tags .entry)) (now (pivots .entry))
         (now (labels .entry)) (now (holds .entry)) (now (out .entry)) (now (table .entry)) (now (sizes .entry))
         r′ (now (layers .exit)) (now (rows .exit)) (now (tags .exit)) (now (pivots .exit))
-        (now (labels .exit)) (now (holds .exit)) (now (out .exit)) (now (table .exit)) (now (sizes .exit)) ⌝ }
+        (now (labels .exit)) (now (holds .exit)) (now (out .exit)) (now (table .exit)) (now (sizes .exit)) (now (place .exit)) ⌝ }
 {
     if s.tally.marks >= full {
         return s;
@@ -66,6 +69,7 @@ fn round(
             rows,
             tags,
             pivots,
+            place,
             labels,
             holds,
             out,
@@ -97,6 +101,7 @@ fn rounds(
     rows: &mut [u64],
     tags: &mut [u64],
     pivots: &mut [u8],
+    place: &mut [u8],
     labels: &mut [u8],
     holds: &mut [u64],
     out: &mut [u8],
@@ -110,13 +115,13 @@ fn rounds(
     requires { ⌜ 128 ≤ length (now touch) ⌝ }
     requires { ⌜ 33 ≤ length (now layers) ⌝ }
     requires { ⌜ 64 ≤ length (now counts) ⌝ }
-    requires { ⌜ Sized (now rows) (now tags) (now pivots) ⌝ }
+    requires { ⌜ Sized (now rows) (now tags) (now pivots) (now place) (s .tally .index) (s .tally .marks) ⌝ }
     requires { ⌜ Fit (now labels) (now holds) (s .tally) ⌝ }
     ensures { λ r′. ⌜ Rounds (through (roundBy (graph n (now (adj .entry)) (now (touch .entry))) from full) (count 3 (n - 2))) s
         (now (layers .entry)) (now (rows .entry)) (now (tags .entry)) (now (pivots .entry))
         (now (labels .entry)) (now (holds .entry)) (now (out .entry)) (now (table .entry)) (now (sizes .entry))
         r′ (now (layers .exit)) (now (rows .exit)) (now (tags .exit)) (now (pivots .exit))
-        (now (labels .exit)) (now (holds .exit)) (now (out .exit)) (now (table .exit)) (now (sizes .exit)) ⌝ }
+        (now (labels .exit)) (now (holds .exit)) (now (out .exit)) (now (table .exit)) (now (sizes .exit)) (now (place .exit)) ⌝ }
 {
     let mut going = s;
     for k in 3..n + 1 {
@@ -132,6 +137,7 @@ fn rounds(
             rows,
             tags,
             pivots,
+            place,
             labels,
             holds,
             out,
@@ -170,14 +176,22 @@ pub fn run(
     let mut rows = [0u64; 164];
     let mut tags = [0u64; 164];
     let mut pivots = [0u8; 82];
+    let mut place = [0u8; 128];
     let mut labels = [0u8; 82];
     let mut holds = [0u64; 82];
+    let none = BondSet { lo: 0, hi: 0 };
+    let index = Index {
+        fresh: none,
+        late: none,
+        all: none,
+    };
     let tally = Tally {
         marks: 0,
         short: 0,
         families: 0,
         classes: 0,
         total: 0,
+        index,
     };
     let rings = Count { rings: 0, over: 0 };
     rounds(
@@ -192,6 +206,7 @@ pub fn run(
         &mut rows,
         &mut tags,
         &mut pivots,
+        &mut place,
         &mut labels,
         &mut holds,
         out,

@@ -34,7 +34,7 @@ settle-is k first L labels classes table out n o = rw (← n, o)
 
 module _ {k : ℕ} {holds labels : List ℕ} {table labels′ : List ℕ} {classes : ℕ} {table′ : List ℕ} {t : Tally} where
   pub settle-fit : Numbered k (t .short) (t .marks) holds labels (t .classes) table labels′ classes table′ → Fit labels holds t → length labels′ ≡ length labels
-      → Fit labels′ holds (record { marks = t .marks; short = t .marks; families = t .families; classes = classes; total = t .total })
+      → Fit labels′ holds (record { marks = t .marks; short = t .marks; families = t .families; classes = classes; total = t .total; index = t .index })
   settle-fit n fit e =
       record {
         labelsLong = e ∙ fit .labelsLong;

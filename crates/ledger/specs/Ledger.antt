@@ -6,7 +6,8 @@ use lib.Count.{trailingZeros}
 use lib.Dec.{eqb, ltb}
 use lib.ListN.{length, getD, set}
 use Rattle.bondset.specs.Rows.{putRow}
-use Rattle.bondset.specs.Reduction.{reduced, used, pushedTag, pivotOf}
+use Rattle.bondset.specs.Reduction.{reduced, used, pushedTag}
+use Rattle.bondset.specs.Index.{heldBy, freshPivot}
 use Rattle.cycles.specs.Family.{Family}
 use Rattle.model.specs.Fold.{through, count}
 use Rattle.model.specs.State.{joined}
@@ -45,7 +46,7 @@ markedIn f rest names L =
       total = L .total + f .long;
       rows = putRow (L .rows) j rest;
       tags = putRow (L .tags) j (pushedTag j names);
-      pivots = set (L .pivots) j (pivotOf rest);
+      pivots = set (L .pivots) j (freshPivot (heldBy (L .rows) j) rest);
       labels = set (L .labels) j j;
       holds = set (L .holds) j 1;
       out = putFamily (L .out) (L .families) f 1 j;

@@ -10,8 +10,9 @@ ghost use mathlib.Core.Path.{_≡_};
 ghost use Prim.Native.Nat.{_<_};
 ghost use Rattle.bondset.specs.Sets.{value};
 ghost use Rattle.rows.specs.Values.{Small};
-ghost use Rattle.ledger.specs.Held.{Sized, Fit, held, Marks, Sums, Enters, Settles};
+ghost use Rattle.ledger.specs.Held.{Sized, Lacks, Fit, held, Marks, Sums, Enters, Settles};
 use bondset::BondSet;
+use bondset::indexed::Index;
 use bondset::reduction::Reduced;
 use rows::Family;
 
@@ -27,6 +28,8 @@ pub struct Tally {
     pub classes: usize,
     /// The total length of the marked rings.
     pub total: u64,
+    /// How the rows of the marked rings are found.
+    pub index: Index,
 }
 
 /// Enters a kept prototype that is no sum of marked ones, as one more marked ring: `v` is what its reduction left.
@@ -34,6 +37,7 @@ fn mark(
     rows: &mut [u64],
     tags: &mut [u64],
     pivots: &mut [u8],
+    place: &mut [u8],
     labels: &mut [u8],
     holds: &mut [u64],
     out: &mut [u8],
@@ -42,15 +46,17 @@ fn mark(
     t: Tally,
 ) -> Tally
     requires { ⌜ Small f ⌝ }
-    requires { ⌜ Sized (now rows) (now tags) (now pivots) ⌝ }
+    requires { ⌜ Sized (now rows) (now tags) (now pivots) (now place) (t .index) (t .marks) ⌝ }
     requires { ⌜ Fit (now labels) (now holds) t ⌝ }
     requires { ⌜ t .marks < 82 ⌝ }
+    requires { ⌜ Lacks (now pivots) (t .marks) (value (v .rest)) ⌝ }
+    requires { ⌜ (value (v .rest) ≡ 0 → ⊥) ⌝ }
     ensures { λ r. ⌜ Marks f (value (v .rest)) (value (v .used)) t
-        (now (rows .entry)) (now (tags .entry)) (now (pivots .entry)) (now (labels .entry)) (now (holds .entry)) (now (out .entry))
-        r (now (rows .exit)) (now (tags .exit)) (now (pivots .exit)) (now (labels .exit)) (now (holds .exit)) (now (out .exit)) ⌝ }
+        (now (rows .entry)) (now (tags .entry)) (now (pivots .entry)) (now (place .entry)) (now (labels .entry)) (now (holds .entry)) (now (out .entry))
+        r (now (rows .exit)) (now (tags .exit)) (now (pivots .exit)) (now (place .exit)) (now (labels .exit)) (now (holds .exit)) (now (out .exit)) ⌝ }
 {
     let j = t.marks;
-    bondset::reduction::push(rows, tags, pivots, j, v);
+    let index = bondset::indexed::push(rows, tags, pivots, place, t.index, j, v);
     labels[j] = j as u8;
     holds[j] = 1;
     rows::put_family(out, t.families, f, 1, j);
@@ -60,6 +66,7 @@ fn mark(
         families: std::num::wrapping_add_usize(t.families, 1),
         classes: t.classes,
         total: t.total + f.k as u64,
+        index,
     }
 }
 
@@ -86,6 +93,7 @@ fn sum_up(
     ensures { λ r. ⌜ Sums f (value s) t (now (labels .entry)) (now (holds .entry)) (now (out .entry))
         r (now (labels .exit)) (now (holds .exit)) (now (out .exit)) ⌝ }
 {
+    let index = t.index;
     let j = bondset::lowest(s);
     labels::join(labels, t.short, t.marks, s);
     hold(holds, j);
@@ -96,6 +104,7 @@ fn sum_up(
         families: std::num::wrapping_add_usize(t.families, 1),
         classes: t.classes,
         total: t.total,
+        index,
     }
 }
 
@@ -104,6 +113,7 @@ pub fn enter(
     rows: &mut [u64],
     tags: &mut [u64],
     pivots: &mut [u8],
+    place: &mut [u8],
     labels: &mut [u8],
     holds: &mut [u64],
     out: &mut [u8],
@@ -112,19 +122,20 @@ pub fn enter(
     t: Tally,
 ) -> Tally
     requires { ⌜ Small f ⌝ }
-    requires { ⌜ Sized (now rows) (now tags) (now pivots) ⌝ }
+    requires { ⌜ Sized (now rows) (now tags) (now pivots) (now place) (t .index) (t .marks) ⌝ }
     requires { ⌜ Fit (now labels) (now holds) t ⌝ }
+    requires { ⌜ Lacks (now pivots) (t .short) (value (v .rest)) ⌝ }
     ensures { λ r. ⌜ Enters f (value (v .rest)) (value (v .used)) t
-        (now (rows .entry)) (now (tags .entry)) (now (pivots .entry)) (now (labels .entry)) (now (holds .entry)) (now (out .entry))
-        r (now (rows .exit)) (now (tags .exit)) (now (pivots .exit)) (now (labels .exit)) (now (holds .exit)) (now (out .exit)) ⌝ }
+        (now (rows .entry)) (now (tags .entry)) (now (pivots .entry)) (now (place .entry)) (now (labels .entry)) (now (holds .entry)) (now (out .entry))
+        r (now (rows .exit)) (now (tags .exit)) (now (pivots .exit)) (now (place .exit)) (now (labels .exit)) (now (holds .exit)) (now (out .exit)) ⌝ }
 {
-    let w = bondset::reduction::reduce(rows, tags, pivots, t.short, t.marks, v);
+    let w = bondset::indexed::reduce(rows, tags, pivots, place, t.index, t.short, t.marks, v);
     if bondset::is_empty(w.rest) {
         let s = bondset::since(w.used, t.short);
         return sum_up(labels, holds, out, f, s, t);
     }
     if t.marks < 82 {
-        return mark(rows, tags, pivots, labels, holds, out, f, w, t);
+        return mark(rows, tags, pivots, place, labels, holds, out, f, w, t);
     }
     t
 }
@@ -144,6 +155,7 @@ pub fn settle(
     ensures { λ r. ⌜ Settles k first t (now (labels .entry)) (now (holds .entry)) (now (out .entry)) (now (table .entry))
         r (now (labels .exit)) (now (out .exit)) (now (table .exit)) ⌝ }
 {
+    let index = t.index;
     let classes = rows::number(labels, holds, table, k, t.short, t.marks, t.classes);
     rows::patch(labels, out, first, t.families);
     Tally {
@@ -152,5 +164,6 @@ pub fn settle(
         families: t.families,
         classes,
         total: t.total,
+        index,
     }
 }

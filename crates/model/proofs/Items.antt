@@ -17,7 +17,7 @@ use Rattle.model.specs.Layer.{layer, layersInto, walk, ways}
 use Rattle.model.specs.State.{State, judged, link, tried}
 use Rattle.model.specs.Loops.{Running, seek, tops, topLoop, lengthLoop}
 use Rattle.model.specs.Run.{Run}
-use Rattle.model.proofs.Ready.{Ready, Layered}
+use Rattle.model.proofs.Ready.{held, Ready, Layered}
 use Rattle.model.proofs.Layers.{layers-layered}
 use Rattle.model.proofs.Walks.{Given, walk-given}
 use Rattle.model.proofs.Ways.{ways-size}
@@ -56,7 +56,7 @@ module _ (c : Compound) (rank pre : ℕ → ℕ) (ready : Ready c rank pre) wher
   pub record Items (k : ℕ) (tries : List Try) : Type 0 where
     pub ordered : Ascending (map (λ t. t .family) tries)
     pub long : All (λ t. t .family .long ≡ k) tries
-    pub given : All (λ t. Given c rank pre ready (t .family) (t .ring)) tries
+    pub given : All (λ t. Given c rank pre (held ready) (t .family) (t .ring)) tries
     pub sized : All (λ t. Kept c rank (t .family) → Size c rank (t .family) (t .size)) tries
     pub all : (f : Family) → Kept c rank f → f .long ≡ k → f ∈ map (λ t. t .family) tries
 
@@ -116,14 +116,14 @@ module _ (c : Compound) (rank pre : ℕ → ℕ) (ready : Ready c rank pre) wher
 
     record Good (t : Try) : Type 0 where
       long : t .family .long ≡ k
-      given : Given c rank pre ready (t .family) (t .ring)
+      given : Given c rank pre (held ready) (t .family) (t .ring)
       sized : Kept c rank (t .family) → Size c rank (t .family) (t .size)
 
     try-good : {r : ℕ} {us : List ℕ} {f : Family} → r < c .n → Layered c pre r (k / 2) us → Of k r f → Some c rank pre ready f (depth k) → Good (try us f)
     try-good {us} {f} small layered Of.of w =
         record {
           long = refl;
-          given = walk-given c rank pre ready us (k / 2) (depth k) f (w .0) small layered (omega arith) (w .1);
+          given = walk-given c rank pre (held ready) us (k / 2) (depth k) f (w .0) small layered (omega arith) (w .1);
           sized = ways-size c rank pre ready us (k / 2) (depth k) f (w .0) small layered (omega arith) (w .1);
         }
 
@@ -133,7 +133,7 @@ module _ (c : Compound) (rank pre : ℕ → ℕ) (ready : Ready c rank pre) wher
     tries-good (r ∷ rs) us long room named =
         all-append
         (all-mapped (try (wrote r us)) (candidates r)
-        (λ f m. try-good (named r first) (layers-layered c rank pre ready r (k / 2) us room) (of r m) (under-candidate c rank pre ready r (named r first) k long m)))
+        (λ f m. try-good (named r first) (layers-layered c rank pre (held ready) r (k / 2) us room) (of r m) (under-candidate c rank pre ready r (named r first) k long m)))
         (tries-good rs (wrote r us) long (rw (length-wrote r us) room) (λ r′ m. named r′ (later m)))
 
     module _ {X : Type 0} (step : Try → X → X) where
@@ -155,7 +155,7 @@ module _ (c : Compound) (rank pre : ℕ → ℕ) (ready : Ready c rank pre) wher
           let us = wrote r (s .layers) in
           let more : k / 2 < length us = rw (length-wrote r (s .layers)) room in
           state-is rs (topLoop G attempt pre k r s) more
-          ∙ ap (λ (x : X). through step (triesOf rs us) x) (seek-tried r us (s .state) (layers-layered c rank pre ready r (k / 2) (s .layers) room))
+          ∙ ap (λ (x : X). through step (triesOf rs us) x) (seek-tried r us (s .state) (layers-layered c rank pre (held ready) r (k / 2) (s .layers) room))
           ∙ sym (through-append step (map (try us) (candidates r)) (triesOf rs us) (s .state))
 
     room-is : (rs : List ℕ) (s : Run) → length ((through (topLoop G (tried G) pre k) rs s) .layers) ≡ length (s .layers)

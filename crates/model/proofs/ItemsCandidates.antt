@@ -16,7 +16,7 @@ use Rattle.cycles.proofs.Families.{chosen-down}
 use Rattle.model.specs.Net.{Net, netOf, nbrs}
 use Rattle.model.specs.Layer.{layer}
 use Rattle.model.specs.Loops.{above, fam, tops}
-use Rattle.model.proofs.Ready.{Ready, DownFrom}
+use Rattle.model.proofs.Ready.{held, Ready, DownFrom}
 use Rattle.model.proofs.Layers.{nbrs-bonded, nbrs-small, bonded-sym, layer-down}
 use Rattle.model.proofs.NetBits.{and-has}
 use Rattle.model.proofs.ItemsSets.{above-has, two-of, top-of-two, top-small}
@@ -35,9 +35,10 @@ module _ (c : Compound) (rank pre : ℕ → ℕ) (ready : Ready c rank pre) wher
   down-small Down.top h = absurd (omega arith)
   down-small (Down.step less far bond rest) h = bonded-small bond
 
-  top-named : {r t d : ℕ} {P : List ℕ} → Down c rank r t d P → t < c .n → r < c .n
+  -- So is the top of a path down.
+  pub top-named : {r t d : ℕ} {P : List ℕ} → Down c rank r t d P → t < c .n → r < c .n
   top-named Down.top h = h
-  top-named (Down.step less far bond rest) h = top-named rest (bonded-small (bonded-sym c rank pre ready bond))
+  top-named (Down.step less far bond rest) h = top-named rest (bonded-small (bonded-sym c rank pre (held ready) bond))
 
   -- The atom before the top.
   record Before (r : ℕ) (P : List ℕ) : Type 0 where
@@ -78,10 +79,10 @@ module _ (c : Compound) (rank pre : ℕ → ℕ) (ready : Ready c rank pre) wher
     odd-candidate {k} {d} h long (Odd.odd {p} {q} e i) =
         let w = and-has (above (at r d) p) (nbrs G p) q .0 i in
         let up = above-has (at r d) p q .0 (w .0) in
-        let down = layer-down c rank pre ready r p d small .0 e in (
+        let down = layer-down c rank pre (held ready) r p d small .0 e in (
           p ∷ q ∷ [],
-          Candidate.odd (up .0) (nbrs-bonded c rank pre ready p q (down-small (down .1) h) .0 (w .1)) (under-of h down)
-              (under-of h (layer-down c rank pre ready r q d small .0 (up .1))) long,
+          Candidate.odd (up .0) (nbrs-bonded c rank pre (held ready) p q (down-small (down .1) h) .0 (w .1)) (under-of h down)
+              (under-of h (layer-down c rank pre (held ready) r q d small .0 (up .1))) long,
         )
 
     even-candidate : {k d e : ℕ} {f : Family} → 0 < d → e ≡ suc d → k ≡ 2 * suc d → Even G k r (at r e) (at r d) f → Some f d
@@ -89,11 +90,11 @@ module _ (c : Compound) (rank pre : ℕ → ℕ) (ready : Ready c rank pre) wher
         let up = above-has (bitAnd (nbrs G x) (at r d)) p q .0 j in
         let atP = and-has (nbrs G x) (at r d) p .0 i in
         let atQ = and-has (nbrs G x) (at r d) q .0 (up .1) in
-        let down = layer-down c rank pre ready r x (suc d) small .0 (subst (λ (y : ℕ). bit (at r y) x ≡ 1) next here) in
-        let near : (t : ℕ) → bit (nbrs G x) t ≡ 1 → Bonded c x t = λ t. nbrs-bonded c rank pre ready x t (down-small (down .1) (omega arith)) .0 in (
+        let down = layer-down c rank pre (held ready) r x (suc d) small .0 (subst (λ (y : ℕ). bit (at r y) x ≡ 1) next here) in
+        let near : (t : ℕ) → bit (nbrs G x) t ≡ 1 → Bonded c x t = λ t. nbrs-bonded c rank pre (held ready) x t (down-small (down .1) (omega arith)) .0 in (
           p ∷ x ∷ q ∷ [],
-          Candidate.even (up .0) (bonded-sym c rank pre ready (near p (atP .0))) (near q (atQ .0)) (under-of (omega arith) down)
-              (under-of h (layer-down c rank pre ready r p d small .0 (atP .1))) (under-of h (layer-down c rank pre ready r q d small .0 (atQ .1))) long,
+          Candidate.even (up .0) (bonded-sym c rank pre (held ready) (near p (atP .0))) (near q (atQ .0)) (under-of (omega arith) down)
+              (under-of h (layer-down c rank pre (held ready) r p d small .0 (atP .1))) (under-of h (layer-down c rank pre (held ready) r q d small .0 (atQ .1))) long,
         )
 
     -- All that is found under r is a candidate.
@@ -120,12 +121,12 @@ module _ (c : Compound) (rank pre : ℕ → ℕ) (ready : Ready c rank pre) wher
     unfolding found
     odd-under {k} {p} {q} h odd less bond downP downQ =
         let u = at r (k / 2) in
-        let atP = layer-down c rank pre ready r p (k / 2) small .1 downP in
-        let atQ = layer-down c rank pre ready r q (k / 2) small .1 downQ in
+        let atP = layer-down c rank pre (held ready) r p (k / 2) small .1 downP in
+        let atQ = layer-down c rank pre (held ready) r q (k / 2) small .1 downQ in
         let smallP = bonded-small bond in
-        let near = nbrs-bonded c rank pre ready p q smallP .1 bond in
+        let near = nbrs-bonded c rank pre (held ready) p q smallP .1 bond in
         rw (eq-eqb (k % 2) 1 odd)
-        (odds-have G k r u p q (atoms-64 smallP) (atoms-64 (bonded-small (bonded-sym c rank pre ready bond))) atP
+        (odds-have G k r u p q (atoms-64 smallP) (atoms-64 (bonded-small (bonded-sym c rank pre (held ready) bond))) atP
         (and-has (above u p) (nbrs G p) q .1 (above-has u p q .1 (less, atQ), near)))
 
     even-under : {k x p q : ℕ} → (k % 2 ≡ 1 → ⊥) → p < q → Bonded c p x → Bonded c x q → DownFrom c rank r x (k / 2)
@@ -135,13 +136,13 @@ module _ (c : Compound) (rank pre : ℕ → ℕ) (ready : Ready c rank pre) wher
         let below = at r (k / 2 - 1) in
         let ps = bitAnd (nbrs G x) below in
         let smallX = bonded-small bondQ in
-        let atX = layer-down c rank pre ready r x (k / 2) small .1 downX in
-        let atP = layer-down c rank pre ready r p (k / 2 - 1) small .1 downP in
-        let atQ = layer-down c rank pre ready r q (k / 2 - 1) small .1 downQ in
-        let nearP = nbrs-bonded c rank pre ready x p smallX .1 (bonded-sym c rank pre ready bondP) in
-        let nearQ = nbrs-bonded c rank pre ready x q smallX .1 bondQ in
+        let atX = layer-down c rank pre (held ready) r x (k / 2) small .1 downX in
+        let atP = layer-down c rank pre (held ready) r p (k / 2 - 1) small .1 downP in
+        let atQ = layer-down c rank pre (held ready) r q (k / 2 - 1) small .1 downQ in
+        let nearP = nbrs-bonded c rank pre (held ready) x p smallX .1 (bonded-sym c rank pre (held ready) bondP) in
+        let nearQ = nbrs-bonded c rank pre (held ready) x q smallX .1 bondQ in
         rw (ne-eqb (k % 2) 1 other)
-        (evens-have G k r (at r (k / 2)) below x p q (atoms-64 smallX) (atoms-64 (bonded-small bondP)) (atoms-64 (bonded-small (bonded-sym c rank pre ready bondQ))) atX
+        (evens-have G k r (at r (k / 2)) below x p q (atoms-64 smallX) (atoms-64 (bonded-small bondP)) (atoms-64 (bonded-small (bonded-sym c rank pre (held ready) bondQ))) atX
         (and-has (nbrs G x) below p .1 (nearP, atP)) (above-has ps p q .1 (less, and-has (nbrs G x) below q .1 (nearQ, atQ))))
 
   -- ---- the families kept
@@ -177,13 +178,13 @@ module _ (c : Compound) (rank pre : ℕ → ℕ) (ready : Ready c rank pre) wher
       let downQ = chosen-down c (ready .sound) rank (s .chosenQ) in
       let a = before downP some in
       let b = before downQ some in
-      let small : r < c .n = bonded-small (bonded-sym c rank pre ready (a .bond)) in
+      let small : r < c .n = bonded-small (bonded-sym c rank pre (held ready) (a .bond)) in
       let apart : a .a ≡ b .a → ⊥ = λ e.
       let same = s .apart (b .a) (subst (λ (x : ℕ). x ∈ s .P) e (a .mem)) (b .mem) in
       let less : rank r < rank r = subst (λ (x : ℕ). rank x < rank r) same (b .less) in
       omega arith in
       top-of-two G pre r (rw net-n small)
-      (two-of (c .n) (bitAnd (nbrs G r) (pre r)) (a .a) (b .a) (omega (arith, and-le-l (nbrs G r) (pre r), nbrs-small c rank pre ready r))
+      (two-of (c .n) (bitAnd (nbrs G r) (pre r)) (a .a) (b .a) (omega (arith, and-le-l (nbrs G r) (pre r), nbrs-small c rank pre (held ready) r))
       (bonded-small (a .bond)) (bonded-small (b .bond)) (has small a) (has small b) apart)
     where
       r : ℕ
@@ -192,7 +193,7 @@ module _ (c : Compound) (rank pre : ℕ → ℕ) (ready : Ready c rank pre) wher
       has : {P : List ℕ} → r < c .n → (a : Before r P) → bit (bitAnd (nbrs G r) (pre r)) (a .a) ≡ 1
       has small a =
           and-has (nbrs G r) (pre r) (a .a) .1
-          (nbrs-bonded c rank pre ready r (a .a) small .1 (bonded-sym c rank pre ready (a .bond)), ready .precede r (a .a) small (bonded-small (a .bond)) .1 (a .less))
+          (nbrs-bonded c rank pre (held ready) r (a .a) small .1 (bonded-sym c rank pre (held ready) (a .bond)), ready .precede r (a .a) small (bonded-small (a .bond)) .1 (a .less))
 
   -- A top atom is an atom of the compound.
   pub top-named-small : (r : ℕ) → bit (tops G pre) r ≡ 1 → r < c .n

@@ -20,7 +20,7 @@ use Rattle.model.specs.Layer.{Wave, spread, wave, layer, layersInto}
 use Rattle.model.proofs.NetBits.{and-has, pow-has}
 use Rattle.model.proofs.NetRead.{through-count, Touched, End, touch-touched}
 use Rattle.model.proofs.NetNear.{net-near, nbrs-has, near-has, newOf, Step, step}
-use Rattle.model.proofs.Ready.{Ready, DownFrom, Layered}
+use Rattle.model.proofs.Ready.{Held, DownFrom, Layered}
 
 -- ---- the layers of any net
 
@@ -47,7 +47,7 @@ module _ (G : Net) (pre r : ℕ) where
 
 -- ---- the layers of a compound
 
-module _ (c : Compound) (rank pre : ℕ → ℕ) (ready : Ready c rank pre) where
+module _ (c : Compound) (rank pre : ℕ → ℕ) (ready : Held c rank pre) where
   abbrev G : Net
   G = netOf c
 

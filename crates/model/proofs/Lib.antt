@@ -4,11 +4,16 @@ pub mod NetRead
 pub mod NetNear
 pub mod Layers
 pub mod Walks
+pub mod PlainModel
+pub mod PlainRun
+pub mod PlainChoice
 pub mod ItemsLists
 pub mod ItemsSets
 pub mod ItemsFound
 pub mod ItemsCandidates
 pub mod Ways
+pub mod Upways
+pub mod Tables
 pub mod Items
 pub mod TraceBases
 pub mod TraceJudged
@@ -30,3 +35,7 @@ pub mod MeetsEvents
 pub mod Meets
 pub mod BenchRight
 pub mod Related
+pub mod Shares
+pub mod Entries
+pub mod Wrapped
+pub mod EntriesBench

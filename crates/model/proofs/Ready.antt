@@ -11,7 +11,14 @@ use Rattle.cycles.specs.Family.{Family, Down, Kept, Member}
 use Rattle.model.specs.Net.{netOf}
 use Rattle.model.specs.Layer.{layer}
 
--- A sound compound within the limits, and `pre r` is the set of its atoms that precede r in the ranking.
+-- A sound compound within the limits, and `pre r` is the set of its atoms that precede r in a ranking that may give atoms the same place.
+pub record Held (c : Compound) (rank pre : ℕ → ℕ) : Type 0 where
+  pub sound : Sound c
+  pub atoms : c .n ≤ 64
+  pub bonds : m c ≤ 96
+  pub precede : (r a : ℕ) → r < c .n → a < c .n → (bit (pre r) a ≡ 1) ↔ (rank a < rank r)
+
+-- A sound compound in one piece within the limits, and `pre r` is the set of its atoms that precede r in the ranking.
 pub record Ready (c : Compound) (rank pre : ℕ → ℕ) : Type 0 where
   pub sound : Sound c
   pub one-piece : OnePiece c
@@ -20,6 +27,9 @@ pub record Ready (c : Compound) (rank pre : ℕ → ℕ) : Type 0 where
   pub bonds : m c ≤ 96
   pub injective : (a b : ℕ) → a < c .n → b < c .n → rank a ≡ rank b → a ≡ b
   pub precede : (r a : ℕ) → r < c .n → a < c .n → (bit (pre r) a ≡ 1) ↔ (rank a < rank r)
+
+abbrev pub held : {c : Compound} {rank pre : ℕ → ℕ} → Ready c rank pre → Held c rank pre
+held ready = record { sound = ready .sound; atoms = ready .atoms; bonds = ready .bonds; precede = ready .precede }
 
 -- r, or an atom under r, with the distance d.
 abbrev pub DownFrom : Compound → (ℕ → ℕ) → ℕ → ℕ → ℕ → Type 0

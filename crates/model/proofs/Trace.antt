@@ -19,12 +19,14 @@ use Rattle.spans.proofs.Indep.{Indep}
 use Rattle.spans.proofs.Short.{SpansShort, relevant-not-span, not-span-relevant}
 use Rattle.spans.proofs.Marking.{Near, level-step}
 use Rattle.bondset.specs.Rows.{putRow}
-use Rattle.bondset.specs.Reduction.{reduced, used, pushedTag, pivotOf, Room, combine, namedBy, Reduction}
+use Rattle.bondset.specs.Reduction.{reduced, used, pushedTag, Room, combine, namedBy, Reduction}
 use Rattle.bondset.proofs.Group.{bondSets}
 use Rattle.bondset.proofs.Rows.{length-putRow}
 use Rattle.bondset.proofs.Laws.{xor-cancel}
 use Rattle.bondset.proofs.ReductionTags.{namedBy-part}
-use Rattle.bondset.proofs.ReductionTheorems.{reduced-on, reduction-rest, reduction-rest-lt, reduction-indep, reduction-push, remains-short}
+use Rattle.bondset.specs.Index.{heldBy, freshPivot}
+use Rattle.bondset.proofs.ReductionTheorems.{reduced-on, reduction-rest, reduction-rest-lt, reduction-indep, reduction-push-at, remains-short}
+use Rattle.bondset.proofs.IndexPush.{Bond, pivot-bond}
 use Rattle.cycles.specs.Compound.{Compound}
 use Rattle.cycles.specs.Ring.{len, Closed, Relevant}
 use Rattle.cycles.specs.Family.{Family, Prototype, Kept}
@@ -35,7 +37,7 @@ use Rattle.cycles.proofs.Ranks.{in-map}
 use Rattle.cycles.proofs.Families.{prototype-member, member-differ-shorter}
 use Rattle.model.specs.Fold.{through, count}
 use Rattle.model.specs.State.{State, marked as pushed, unmarked, joined}
-use Rattle.model.proofs.Ready.{Ready, Covered}
+use Rattle.model.proofs.Ready.{held, Ready, Covered}
 use Rattle.model.proofs.Walks.{Given}
 use Rattle.model.proofs.Items.{Try, judge, Items}
 use Rattle.model.proofs.NumbersJoin.{joined-length}
@@ -316,13 +318,21 @@ module _ (c : Compound) (rank pre : ℕ → ℕ) (ready : Ready c rank pre) wher
         subst
         (λ (j : ℕ). Reduction (putRow (st .rows) j (reduced (st .rows) (st .pivots) 0 j (t .ring)))
         (putRow (st .tags) j (pushedTag j (used (st .rows) (st .tags) (st .pivots) 0 j (t .ring) 0)))
-        (set (st .pivots) j (pivotOf (reduced (st .rows) (st .pivots) 0 j (t .ring)))) (S ++ (M ++ (t .ring ∷ []))))
+        (set (st .pivots) j (freshPivot (heldBy (st .rows) j) (reduced (st .rows) (st .pivots) 0 j (t .ring)))) (S ++ (M ++ (t .ring ∷ []))))
         (sym (a .marks))
         (rw append-assoc at
-        (reduction-push (a .reduction)
+        (reduction-push-at (a .reduction)
         (room-at (st .rows) (st .tags) (st .pivots) (length (S ++ M)) (a .roomy .rows) (a .roomy .tags) (a .roomy .pivots) few) (omega arith) (t .ring)
-        (λ z. new (rw take-length at (reduction-rest (a .reduction) (length (S ++ M)) (le-refl (length (S ++ M))) (t .ring) .spans z)))
-        (reduction-rest-lt (a .reduction) (length (S ++ M)) (le-refl (length (S ++ M))) (t .ring) (closed-fits c (ready .bonds) closed))))
+        fits _ (bond .holds) (bond .small)))
+      where
+        fits : reduced (st .rows) (st .pivots) 0 (length (S ++ M)) (t .ring) < 2 ^ 128
+        fits = reduction-rest-lt (a .reduction) (length (S ++ M)) (le-refl (length (S ++ M))) (t .ring) (closed-fits c (ready .bonds) closed)
+
+        bond : Bond (reduced (st .rows) (st .pivots) 0 (length (S ++ M)) (t .ring))
+            (freshPivot (heldBy (st .rows) (length (S ++ M))) (reduced (st .rows) (st .pivots) 0 (length (S ++ M)) (t .ring)))
+        bond =
+            pivot-bond (heldBy (st .rows) (length (S ++ M))) _ fits
+            (λ z. new (rw take-length at (reduction-rest (a .reduction) (length (S ++ M)) (le-refl (length (S ++ M))) (t .ring) .spans z)))
 
     push-mid : Closed c (t .ring) → (Span bondSets (S ++ M) (t .ring) → ⊥) → length (S ++ M) < 82 → Mid S (M ++ (t .ring ∷ [])) one-more
     unfolding pushed
@@ -395,14 +405,14 @@ module _ (c : Compound) (rank pre : ℕ → ℕ) (ready : Ready c rank pre) wher
           (judged-passed (t .family) (t .size) (t .ring) st z)
       prototype-step p (no n) = relevant-step p (some-relevant p n) n (ℕ-discrete (rest (t .ring) st) 0)
 
-      given-step : Given c rank pre ready (t .family) (t .ring) → Step (judge t st)
+      given-step : Given c rank pre (held ready) (t .family) (t .ring) → Step (judge t st)
       unfolding bondSets
       given-step (Given.dropped z n) =
           Step.passed n
           (judged-passed (t .family) (t .size) (t .ring) st (span-rest-short a (t .ring) (at bondSets (sym z) (zero bondSets S))))
       given-step (Given.prototype p) = prototype-step p (ℕ-discrete (restShort (t .ring) st) 0)
 
-      given-fits : Given c rank pre ready (t .family) (t .ring) → Fits t st
+      given-fits : Given c rank pre (held ready) (t .family) (t .ring) → Fits t st
       unfolding bondSets
       given-fits (Given.dropped z n) some new = absurd (some (span-rest-short a (t .ring) (at bondSets (sym z) (zero bondSets S))))
       given-fits (Given.prototype p) some new =
@@ -450,7 +460,7 @@ module _ (c : Compound) (rank pre : ℕ → ℕ) (ready : Ready c rank pre) wher
       }
 
   told : {k : ℕ} {S M : List ℕ} {st : State} {ts : List Try} → SpansShort bondSets (len c) (Closed c) k S → Mid S M st → All (λ t. t .family .long ≡ k) ts
-      → All (λ t. Given c rank pre ready (t .family) (t .ring)) ts → Told S M ts st (through judge ts st)
+      → All (λ t. Given c rank pre (held ready) (t .family) (t .ring)) ts → Told S M ts st (through judge ts st)
   unfolding through
   told {S = S} {M = M} {st = st} h a All.nil All.nil =
       record { N = M; events = []; steps = Steps.end; mid = a; did = did-none (length S) st }
@@ -476,7 +486,7 @@ module _ (c : Compound) (rank pre : ℕ → ℕ) (ready : Ready c rank pre) wher
   module _ {Y : Type 0} (R : State → Y → Type 0) (step : Try → Y → Y)
       (turn : (t : Try) (st : State) (y : Y) → Fits t st → R st y → R (judge t st) (step t y)) where
     along : {k : ℕ} {S M : List ℕ} {st : State} {ts : List Try} (y : Y) → SpansShort bondSets (len c) (Closed c) k S → Mid S M st
-        → All (λ t. t .family .long ≡ k) ts → All (λ t. Given c rank pre ready (t .family) (t .ring)) ts → R st y
+        → All (λ t. t .family .long ≡ k) ts → All (λ t. Given c rank pre (held ready) (t .family) (t .ring)) ts → R st y
         → R (through judge ts st) (through step ts y)
     unfolding through
     along y h a All.nil All.nil r = r

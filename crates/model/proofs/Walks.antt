@@ -26,7 +26,7 @@ use Rattle.model.specs.Net.{netOf, nbrs, bond}
 use Rattle.model.specs.Layer.{layer, low, walk}
 use Rattle.model.specs.State.{link}
 use Rattle.model.proofs.NetBits.{and-has}
-use Rattle.model.proofs.Ready.{Ready, DownFrom, Layered}
+use Rattle.model.proofs.Ready.{Held, DownFrom, Layered}
 use Rattle.model.proofs.Layers.{nbrs-bonded, nbrs-small, bond-joins, layer-down}
 
 walked-sum : (S T K L ring : ℕ) → bitXor (bitXor S T) (bitXor (bitXor ring K) L) ≡ bitXor (bitXor (bitXor K S) (bitXor L T)) ring
@@ -60,7 +60,7 @@ shared-later ne np nq _∈_.first (_∈_.later j) = absurd (np j)
 shared-later ne np nq (_∈_.later i) _∈_.first = absurd (nq i)
 shared-later ne np nq (_∈_.later i) (_∈_.later j) = (i, j)
 
-module _ (c : Compound) (rank pre : ℕ → ℕ) (ready : Ready c rank pre) where
+module _ (c : Compound) (rank pre : ℕ → ℕ) (ready : Held c rank pre) where
   down-top : {r t d : ℕ} {P : List ℕ} → Down c rank r t d P → t ≡ r → d ≡ 0
   down-top Down.top e = refl
   down-top (Down.step before far bonded down) e = absurd (omega (arith, before, ap rank e))
@@ -111,7 +111,7 @@ module _ (c : Compound) (rank pre : ℕ → ℕ) (ready : Ready c rank pre) wher
         lt-of-lt-of-le small (pow-mono (ready .atoms))
 
     -- The lowest neighbour in the next layer is the chosen one.
-    low-next : {t next d : ℕ} {P : List ℕ} → d ≤ h → Bonded c t next
+    pub low-next : {t next d : ℕ} {P : List ℕ} → d ≤ h → Bonded c t next
         → ((s : ℕ) (way : List ℕ) → Bonded c t s → Down c rank r s d way → next ≤ s) → Chosen c rank r next d P → low (mask t d) ≡ next
     low-next {t} {next} {d} l bonded lowest chosen =
         let named = ready .sound .named (bonded .0) t next (bonded .1) in
@@ -191,13 +191,13 @@ module _ (c : Compound) (rank pre : ℕ → ℕ) (ready : Ready c rank pre) wher
     prototype : Prototype c rank f ring → Given f ring
 
   -- The two ends of a candidate and the way between them.
-  record Linked (f : Family) (d : ℕ) (between : List ℕ) : Type 0 where
-    downP : DownFrom c rank (f .r) (f .p) d
-    downQ : DownFrom c rank (f .r) (f .q) d
-    ne : f .p ≡ f .q → ⊥
-    edges : Edges c between (link (netOf c) f)
+  pub record Linked (f : Family) (d : ℕ) (between : List ℕ) : Type 0 where
+    pub downP : DownFrom c rank (f .r) (f .p) d
+    pub downQ : DownFrom c rank (f .r) (f .q) d
+    pub ne : f .p ≡ f .q → ⊥
+    pub edges : Edges c between (link (netOf c) f)
 
-  candidate-linked : {f : Family} {d : ℕ} {between : List ℕ} → Candidate c rank f d between → Linked f d between
+  pub candidate-linked : {f : Family} {d : ℕ} {between : List ℕ} → Candidate c rank f d between → Linked f d between
   unfolding link
   candidate-linked (Candidate.odd {p} {q} less (k, joins) underP underQ long) = record {
     downP = underP .1;

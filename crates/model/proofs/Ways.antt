@@ -14,7 +14,7 @@ use Rattle.cycles.proofs.Members.{AllDown, size-is-product}
 use Rattle.model.specs.Fold.{through, each}
 use Rattle.model.specs.Net.{Net, netOf, nbrs}
 use Rattle.model.specs.Layer.{ways}
-use Rattle.model.proofs.Ready.{Ready, DownFrom, Layered}
+use Rattle.model.proofs.Ready.{held, Ready, DownFrom, Layered}
 use Rattle.model.proofs.Layers.{bonded-sym}
 use Rattle.model.proofs.Walks.{mask-has}
 use Rattle.model.proofs.ItemsLists.{∈-each, from-each}
@@ -129,19 +129,20 @@ module _ (c : Compound) (rank pre : ℕ → ℕ) (ready : Ready c rank pre) wher
     downs-down (suc e) t le w P m =
         let g = from-each (λ s. ahead t (downs G us e s)) (members 64 (nearer G us e t)) m in
         let s = g .a in
-        let near = mask-has c rank pre ready us r h small layered t s e (down-small c rank pre ready (w .1) (omega arith)) (omega arith) .0 (bit-of-mem 64 (nearer G us e t) s (g .mem)) in
+        let near = mask-has c rank pre (held ready) us r h small layered t s e (down-small c rank pre ready (w .1) (omega arith)) (omega arith) .0 (bit-of-mem 64 (nearer G us e t) s (g .mem)) in
         down-next (w .1) (near .0) (downs-down e s (omega arith) (near .1)) (ahead-are t (downs G us e s) (g .here))
 
     down-downs : (e : ℕ) {t : ℕ} {P : List ℕ} → e ≤ h → Down c rank r t e P → P ∈ downs G us e t
     unfolding downs
     down-downs zero le Down.top = first
     down-downs (suc e) le (Down.step {t} {next} less far bond rest) =
-        let near = mask-has c rank pre ready us r h small layered t next e (bonded-small c rank pre ready bond) (omega arith) .1 (bond, (_, rest)) in
-        let named : next < c .n = bonded-small c rank pre ready (bonded-sym c rank pre ready bond) in
+        let near = mask-has c rank pre (held ready) us r h small layered t next e (bonded-small c rank pre ready bond) (omega arith) .1 (bond, (_, rest)) in
+        let named : next < c .n = bonded-small c rank pre ready (bonded-sym c rank pre (held ready) bond) in
         ∈-each (λ s. ahead t (downs G us e s)) (mem-of-bit 64 (nearer G us e t) next (omega (arith, ready .atoms)) near)
         (ahead-have t (down-downs e (omega arith) rest))
 
-    all-down : (e t : ℕ) → e ≤ h → DownFrom c rank r t e → AllDown c (ready .sound) rank (ready .injective) r t e (ways G us e t)
+    -- Those are all paths, each once.
+    pub all-down : (e t : ℕ) → e ≤ h → DownFrom c rank r t e → AllDown c (ready .sound) rank (ready .injective) r t e (ways G us e t)
     all-down e t le w = record {
       paths = downs G us e t;
       once = downs-once G us e t;
@@ -149,7 +150,8 @@ module _ (c : Compound) (rank pre : ℕ → ℕ) (ready : Ready c rank pre) wher
       many = downs-many G us e t;
     }
 
-  ends : {f : Family} {d : ℕ} {between : List ℕ} → Candidate c rank f d between → DownFrom c rank (f .r) (f .p) d × DownFrom c rank (f .r) (f .q) d
+  -- Paths lead down from p and from q.
+  pub ends : {f : Family} {d : ℕ} {between : List ℕ} → Candidate c rank f d between → DownFrom c rank (f .r) (f .p) d × DownFrom c rank (f .r) (f .q) d
   ends (Candidate.odd less bond underP underQ long) = (underP .1, underQ .1)
   ends (Candidate.even less bondP bondQ underX underP underQ long) = (underP .1, underQ .1)
 

@@ -7,7 +7,8 @@ use Rattle.cycles.specs.Compound.{Compound}
 use Rattle.cycles.specs.Rows.{Row, ClassRow, Report}
 use Rattle.bondset.specs.Sets.{single, members}
 use Rattle.bondset.specs.Rows.{rowAt, putRow}
-use Rattle.bondset.specs.Reduction.{reducedBy, usedBy, reduced, used, pushedTag, pivotOf}
+use Rattle.bondset.specs.Reduction.{reducedBy, usedBy, reduced, used, pushedTag}
+use Rattle.bondset.specs.Index.{heldBy, newIn, freshPivot}
 use Rattle.model.specs.Fold.{through, each, count}
 use Rattle.model.specs.Net.{near1, touch1, readAdj, readTouch, adjOf, touchOf, netOf, near, bond, preceding}
 use Rattle.model.specs.Layer.{spread, wave, layer, layersInto, walk, ways}
@@ -102,7 +103,7 @@ furtherCases =
 
 -- `report` with all that it calls open, to be run.
 unfoldable pub computed : Compound → Report
-unfolding trailingZeros single members rowAt putRow reducedBy usedBy reduced used pushedTag pivotOf through each count near1 touch1 readAdj readTouch adjOf touchOf netOf near bond preceding spread wave layer layersInto walk ways start marked labelsIn relabel joined unmarked kept judged link tried above partners oddLoop tipLoop evenLoop seek two topStep tops topLoop lengthLoop lengthRound more numbered classed settled runAll reportBy report
+unfolding trailingZeros single members rowAt putRow reducedBy usedBy reduced used pushedTag heldBy newIn freshPivot through each count near1 touch1 readAdj readTouch adjOf touchOf netOf near bond preceding spread wave layer layersInto walk ways start marked labelsIn relabel joined unmarked kept judged link tried above partners oddLoop tipLoop evenLoop seek two topStep tops topLoop lengthLoop lengthRound more numbered classed settled runAll reportBy report
 computed c = report c
 
 -- Each member of the list has P, by computation.

@@ -1,10 +1,14 @@
 pub mod Fold
 pub mod Net
 pub mod Layer
+pub mod Through
+pub mod Tables
 pub mod State
 pub mod Loops
 pub mod Candidates
 pub mod Run
+pub mod Plain
 pub mod Fault
 pub mod Bench
 pub mod FaultBench
+pub mod PlainBench

@@ -10,7 +10,8 @@ use Rattle.cycles.specs.Family.{Family}
 use Rattle.cycles.specs.Rows.{Row, ClassRow}
 use Rattle.bondset.specs.Sets.{has, members}
 use Rattle.bondset.specs.Rows.{putRow}
-use Rattle.bondset.specs.Reduction.{reduced, used, pushedTag, pivotOf}
+use Rattle.bondset.specs.Reduction.{reduced, used, pushedTag}
+use Rattle.bondset.specs.Index.{heldBy, freshPivot}
 use Rattle.model.specs.Fold.{through, count}
 use Rattle.model.specs.Net.{Net, bond}
 use Rattle.model.specs.Layer.{walk, ways}
@@ -63,7 +64,7 @@ marked f size rest names st =
       short = st .short;
       rows = putRow (st .rows) j rest;
       tags = putRow (st .tags) j (pushedTag j names);
-      pivots = set (st .pivots) j (pivotOf rest);
+      pivots = set (st .pivots) j (freshPivot (heldBy (st .rows) j) rest);
       labels = set (st .labels) j j;
       holds = set (st .holds) j 1;
       total = st .total + f .long;

@@ -16,3 +16,6 @@ pub mod Short
 pub mod Marking
 pub mod Replace
 pub mod Kernel
+pub mod Alike
+pub mod Agree
+pub mod Prefix

@@ -1,5 +1,5 @@
 -- Marking, shortest first, what is no sum of those marked before: the marked ones are a minimum basis.
-use mathlib.Core.Path.{_≡_, _∙_}
+use mathlib.Core.Path.{_≡_, refl, sym, ap, subst}
 use mathlib.Core.List.{List, [], _∷_, _++_}
 use mathlib.Core.HLevel.{dec→stable}
 use Prim.Native.Nat.{ℕ, zero, suc, _<_, _≤_}
@@ -8,17 +8,18 @@ use native.Mathlib.Decide.{decLt}
 use lib.ListN.{length}
 use Rattle.spans.specs.Elements.{_∈_}
 use Rattle.spans.specs.Group.{Space}
-use Rattle.spans.specs.Basis.{Part, All, Basis}
+use Rattle.spans.specs.Basis.{Part, All, Sum, Basis}
 use Rattle.spans.specs.Graded.{below, Graded, Minimum}
-use Rattle.spans.proofs.Xor.{undo}
+use Rattle.spans.proofs.Xor.{undo, right, xor}
 use Rattle.spans.proofs.Lists.{all-head, all-tail, part-all, part-refl, part-trans, all-map, all-and, all-append, perm-comm}
-use Rattle.spans.proofs.Span.{Span, at, add, head, span-dec, through, own, mono, left-of, right-of}
+use Rattle.spans.proofs.Span.{Span, at, add, head, span-dec, through, own, mono, left-of, right-of, sum-in}
 use Rattle.spans.proofs.Indep.{Indep, indep-perm}
 use Rattle.spans.proofs.Steinitz.{spanned, spans, fills}
 use Rattle.spans.proofs.Graded.{split, split-part, split-low, graded-minimum}
 use Rattle.spans.proofs.Sift.{Sift}
 use Rattle.spans.proofs.Minimum.{basis}
-use Rattle.spans.proofs.Short.{Short, Relevant, SpansShort, short-one, short-mono, short-span, span-short, not-span-relevant}
+use Rattle.spans.proofs.Short.{Short, Relevant, SpansShort, short-one, short-add, short-mono, short-at, short-span, span-short}
+use Rattle.spans.proofs.Short.{sum-append, not-span-relevant}
 
 module _ {X : Type 0} where
   -- What holds of all elements holds of each.
@@ -86,7 +87,7 @@ module _ {X : Type 0} (G : Space X) where
         All.cons (reach (marking-kept m) (all-map (λ z f. all-head f) a) s) (marking-reach m r (all-map (λ z f. all-tail f) a))
 
 module _ {X : Type 0} (G : Space X) (ℓ : X → ℕ) (W : X → Type 0) where
-  open Space G using (_⊕_)
+  open Space G using (o, _⊕_, self)
 
   -- One of the list is x, but for a sum of elements shorter than k.
   pub record Near (k : ℕ) (ps : List X) (x : X) : Type 0 where
@@ -104,6 +105,59 @@ module _ {X : Type 0} (G : Space X) (ℓ : X → ℕ) (W : X → Type 0) where
   -- Each relevant element has a prototype in the list.
   pub record Complete (ps : List X) : Type 0 where
     pub prototype : (x : X) → Relevant G ℓ W x → Prototype ps x
+
+  -- x is a sum of elements of the list that are no longer than k, but for a sum of elements shorter than k.
+  pub record Covered (k : ℕ) (ps : List X) (x : X) : Type 0 where
+    pub parts : List X
+    pub listed : All (λ p. (p ∈ ps) × (ℓ p ≤ k)) parts
+    pub near : Short G ℓ W k (x ⊕ Sum G parts)
+
+  -- Each relevant element is a sum of elements of the list that are no longer, but for a sum of shorter elements.
+  pub record Covering (ps : List X) : Type 0 where
+    pub covered : (x : X) → Relevant G ℓ W x → Covered (ℓ x) ps x
+
+  near-none : (x e : X) → e ≡ o → x ≡ x ⊕ e
+  near-none x e z = rw z (sym (right G x))
+
+  near-one : (x p s : X) → s ≡ p ⊕ o → x ⊕ p ≡ x ⊕ s
+  near-one x p s e = rw e (ap (λ (u : X). x ⊕ u) (sym (right G p)))
+
+  near-both : (x y s t u : X) → u ≡ s ⊕ t → (x ⊕ s) ⊕ (y ⊕ t) ≡ (x ⊕ y) ⊕ u
+  near-both x y s t u e = rw e (simp (xor, G))
+
+  -- A sum of elements shorter than k is covered by none of the list.
+  pub covered-short : {k : ℕ} {ps : List X} {x : X} → Short G ℓ W k x → Covered k ps x
+  unfolding Sum
+  covered-short {x} s = record { parts = []; listed = All.nil; near = short-at G ℓ W (near-none x (Sum G []) refl) s }
+
+  -- What is near one of the list is covered by it.
+  pub covered-near : {k : ℕ} {ps : List X} {x p : X} → p ∈ ps → ℓ p ≤ k → Short G ℓ W k (x ⊕ p) → Covered k ps x
+  unfolding Sum
+  covered-near {x} {p} i h s =
+      record { parts = p ∷ []; listed = All.cons (i, h) All.nil; near = short-at G ℓ W (near-one x p (Sum G (p ∷ [])) refl) s }
+
+  -- One of the list is covered by itself.
+  pub covered-one : {k : ℕ} {ps : List X} {p : X} → p ∈ ps → ℓ p ≤ k → Covered k ps p
+  unfolding Sum
+  covered-one {p} i h = covered-near i h (record { parts = []; short = All.nil; sum = sym (self p) })
+
+  -- Sums of what is covered are covered.
+  pub covered-add : {k : ℕ} {ps : List X} {x y : X} → Covered k ps x → Covered k ps y → Covered k ps (x ⊕ y)
+  covered-add {x} {y} s t = record {
+    parts = s .parts ++ t .parts;
+    listed = all-append (s .listed) (t .listed);
+    near = short-at G ℓ W (near-both x y (Sum G (s .parts)) (Sum G (t .parts)) (Sum G (s .parts ++ t .parts)) (sum-append G (s .parts) (t .parts)))
+        (short-add G ℓ W (s .near) (t .near));
+  }
+
+  -- The same for an equal element.
+  pub covered-at : {k : ℕ} {ps : List X} {x y : X} → x ≡ y → Covered k ps x → Covered k ps y
+  covered-at {k} {ps} e s = subst (Covered k ps) e s
+
+  -- What has prototypes is covered.
+  pub complete-covering : {ps : List X} → Complete ps → Covering ps
+  complete-covering c =
+      record { covered = λ x r. let t = c .prototype x r in covered-near (t .listed) (omega (arith, t .same)) (t .near) }
 
   -- No element of W is shorter than nothing.
   pub spans-short-zero : (S : List X) → All (λ w. W w × (ℓ w < 0)) S → SpansShort G ℓ W 0 S
@@ -137,43 +191,49 @@ module _ {X : Type 0} (G : Space X) (ℓ : X → ℕ) (W : X → Type 0) where
       (all-map (λ v t. left-of G M t) (own G S))
       (λ x r e. let n = f x r e in near-span x (n .one) (λ v t. left-of G M (h .spans v t)) (n .near) (all-element c (n .listed)))
 
-  module _ {ps M : List X} (c : Complete ps) (r : Rising ℓ ps) (a : All (Relevant G ℓ W) ps) (m : Marking G [] ps M) where
+  module _ {ps M : List X} (c : Covering ps) (r : Rising ℓ ps) (a : All W ps) (m : Marking G [] ps M) where
     marked-inside : All W M
-    marked-inside = marking-all G m All.nil (all-map (λ x p. p .inside) a)
+    marked-inside = marking-all G m All.nil a
 
     low-inside : (k : ℕ) → All (λ w. W w × (ℓ w < k)) (below ℓ k M)
     low-inside k = all-and (part-all (split-part ℓ (split ℓ k M)) marked-inside) (split-low ℓ (split ℓ k M))
 
-    low-next : (k : ℕ) → All (Span G (below ℓ (suc k) M)) (below ℓ k M)
-    low-next k =
+    low-low : {j k : ℕ} → j ≤ k → All (Span G (below ℓ k M)) (below ℓ j M)
+    low-low {j} {k} l =
         all-map (λ x h. h .0 (omega (arith, h .1)))
-        (all-and (part-all (split-part ℓ (split ℓ k M)) (low-own G ℓ (split ℓ (suc k) M))) (split-low ℓ (split ℓ k M)))
+        (all-and (part-all (split-part ℓ (split ℓ j M)) (low-own G ℓ (split ℓ k M))) (split-low ℓ (split ℓ j M)))
 
-    spans-prototype : (p : X) (k : ℕ) → p ∈ ps → ℓ p ≡ k → Span G (below ℓ (suc k) M) p
-    spans-prototype p k i e = rw e at (all-element (marking-reach G ℓ m r All.nil) i)
+    spans-listed : (k : ℕ) (p : X) → (p ∈ ps) × (ℓ p ≤ k) → Span G (below ℓ (suc k) M) p
+    spans-listed k p (i, h) = through G (low-low (omega arith)) (all-element (marking-reach G ℓ m r All.nil) i)
+
+    spans-covered : {k : ℕ} {x : X} → SpansShort G ℓ W k (below ℓ k M) → Covered k ps x → Span G (below ℓ (suc k) M) x
+    spans-covered {k} {x} h t =
+        near-span x (Sum G (t .parts)) (λ v u. through G (low-low (omega arith)) (h .spans v u)) (t .near)
+        (through G (all-map (spans-listed k) (t .listed)) (sum-in G (t .parts)))
 
     -- The marked ones that are shorter than k span the sums of elements shorter than k.
     pub marking-spans-short : (k : ℕ) → SpansShort G ℓ W k (below ℓ k M)
     marking-spans-short zero = spans-short-zero (below ℓ 0 M) (low-inside 0)
     marking-spans-short (suc k) =
         let h = marking-spans-short k in
-        next-spans-short h (low-inside (suc k)) (low-next k)
-        (λ x q e.
-        let t = c .prototype x q in
-        near-span x (t .one) (λ v u. through G (low-next k) (h .spans v u)) (short-mono G ℓ W (omega arith) (t .near))
-        (spans-prototype (t .one) k (t .listed) (t .same ∙ e)))
+        next-spans-short h (low-inside (suc k)) (low-low (omega arith))
+        (λ x q e. spans-covered h (subst (λ (n : ℕ). Covered n ps x) e (c .covered x q)))
 
     -- The marked ones that are shorter than k span what is shorter than k.
     pub marking-graded : Graded G ℓ W M
     marking-graded = record { spans = λ k. spans G (λ s w. marking-spans-short k .spans s (short-one G ℓ W (w .0) (w .1))) }
 
-    -- The marked ones are a minimum basis.
-    pub marking-minimum : Minimum G ℓ W M
-    marking-minimum =
+    -- The ones marked from a covering list are a minimum basis.
+    pub covering-minimum : Minimum G ℓ W M
+    covering-minimum =
         graded-minimum G ℓ W
         (basis G W marked-inside (marking-indep G m Indep.none)
         (λ s w. mono G (split-part ℓ (split ℓ (suc (ℓ s)) M)) (spanned G (marking-graded .spans (suc (ℓ s))) s (w, omega arith))))
         marking-graded
+
+  -- The ones marked from a list with a prototype of each relevant element are a minimum basis.
+  pub marking-minimum : {ps M : List X} → Complete ps → Rising ℓ ps → All (Relevant G ℓ W) ps → Marking G [] ps M → Minimum G ℓ W M
+  marking-minimum c r a m = covering-minimum (complete-covering c) r (all-map (λ x p. p .inside) a) m
 
   -- As many independent elements as a basis has: nothing of length k or more is relevant.
   pub full-stops : {k : ℕ} {S B : List X} {x : X}

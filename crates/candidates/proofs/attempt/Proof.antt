@@ -3,7 +3,7 @@ use mathlib.Core.Path.{refl, sym, _∙_}
 use native.Mathlib.Omega.{arith}
 use Rattle.bondset.specs.Sets.{value}
 use Rattle.rows.specs.Values.{familyOf}
-use Rattle.ledger.proofs.Entered.{room-fits}
+use Rattle.ledger.proofs.Entered.{room-fits, place-fits, reaches, lacks-first}
 use Rattle.candidates.proofs.Kept.{added-few, attempt-none, attempt-kept}
 use borrow.Author.Needs.{needs}
 use Rattle.candidates.proofs.attempt.Statement.{statement}
@@ -20,12 +20,13 @@ empty-requires c κs = search needs
 
 reduce-requires : tie.Need-reduce-requires
 reduce-requires c κs =
-    let start = c .before .before .before .before .before .before .before .before .before .before .before .before .before .before .before .before .before .before in
+    let start = c .before .before .before .before .before .before .before .before .before .before .before .before .before .before .before .before .before .before .before .before in
+    let sized = start .pre .1 .1 .1 .1 .1 .1 .1 .0 in
     let fit = start .pre .1 .1 .1 .1 .1 .1 .1 .1 in
-    room-fits (start .pre .1 .1 .1 .1 .1 .1 .1 .0) _ (omega (arith, fit .shortFit, fit .marksFit))
+    (room-fits sized _ (omega (arith, fit .shortFit, fit .marksFit)), (place-fits sized, reaches sized _ (omega (arith, fit .shortFit))))
 
 is-empty-requires : tie.Need-is-empty-requires
-is-empty-requires c κs = search needs
+is-empty-requires c κs = tt
 
 same-length : tie.Need-same-length
 same-length c = refl
@@ -36,25 +37,23 @@ same-length-2 c = refl
 same-length-3 : tie.Need-same-length-3
 same-length-3 c = refl
 
+same-length-4 : tie.Need-same-length-4
+same-length-4 c = refl
+
 returns : tie.Need-returns
 returns c =
-    let at-is-empty = c .before in
-    let at-reduce = at-is-empty .before in
-    let at-empty = at-reduce .before .before .before .before in
-    let at-walk = at-empty .before .before in
-    let at-link = at-walk .before in
-    let start = at-link .before .before .before .before .before .before .before .before .before .before .before .before in
+    let start = c .before .before .before .before .before .before .before .before .before .before .before .before .before .before .before .before .before .before .before .before .before .before .before in
     let a = start .args in
-    let v = at-reduce .reduce in
+    let v = c .before .before .reduce in
     attempt-none (a .n) (a .adj .now) (a .touch .now) (a .from) (a .layers .now) (a .d) (familyOf (a .f)) (a .s)
     (a .rows .now) (a .tags .now) (a .pivots .now) (a .labels .now) (a .holds .now) (a .out .now) (a .sizes .now)
-    (value (at-link .link .result)) (value (at-walk .walk .result)) (value (at-empty .empty .result)) (value (v .result .rest)) (value (v .result .used))
-    (at-link .link .ensures (a .f .k) (a .f .r)) (at-walk .walk .ensures) (at-empty .empty .ensures) (v .ensures .rest) (v .ensures .used)
-    (sym (at-is-empty .is-empty .ensures) ∙ c .if1 .taken) (start .pre .1 .1 .1 .1 .1 .1 .1 .0) (start .pre .1 .1 .1 .1 .1 .1 .1 .1)
+    (value (c .before .before .before .before .before .before .before .before .before .before .link .result)) (value (c .before .before .before .before .before .before .before .before .before .walk .result)) (value (c .before .before .before .before .before .before .before .empty .result)) (value (v .result .rest)) (value (v .result .used))
+    (c .before .before .before .before .before .before .before .before .before .before .link .ensures (a .f .k) (a .f .r)) (c .before .before .before .before .before .before .before .before .before .walk .ensures) (c .before .before .before .before .before .before .before .empty .ensures) (v .ensures .rest) (v .ensures .used)
+    (sym (c .before .is-empty .ensures) ∙ c .if1 .taken) (start .pre .1 .1 .1 .1 .1 .1 .1 .0) (start .pre .1 .1 .1 .1 .1 .1 .1 .1)
 
 ways-requires : tie.Need-ways-requires
 ways-requires c κs =
-    let start = c .before .before .before .before .before .before .before .before .before .before .before .before .before .before .before .before .before .before .before .before .before .before in
+    let start = c .before .before .before .before .before .before .before .before .before .before .before .before .before .before .before .before .before .before .before .before .before .before .before .before in
     let place = start .pre .0 in
     (record { atoms = place .atoms; deep = place .deep; room = place .room }, (place .disjoint, (start .pre .1 .1 .1 .1 .1 .0, start .pre .1 .1 .1 .1 .1 .1 .0)))
 
@@ -66,56 +65,51 @@ put-size-requires c κs = λ h. added-few _ _ _ _ (c .before .add .ensures) h
 
 enter-requires : tie.Need-enter-requires
 enter-requires c κs =
-    let start = c .before .before .before .before .before .before .before .before .before .before .before .before .before .before .before .before .before .before .before .before .before .before .before .before .before .before .before .before .before .before .before .before .before .before .before .before .before in
-    (start .pre .1 .0, start .pre .1 .1 .1 .1 .1 .1 .1)
-
-same-length-4 : tie.Need-same-length-4
-same-length-4 c = c .before .before .before .before .before .before .before .before .before .before .before .before .before .before .before .before .before .before .before .before .before .before .before .before .before .before .before .ways .kept .1 .1 .0
+    let start = c .before .before .before .before .before .before .before .before .before .before .before .before .before .before .before .before .before .before .before .before .before .before .before .before .before .before .before .before .before .before .before .before .before .before .before .before .before .before .before .before in
+    let sized = start .pre .1 .1 .1 .1 .1 .1 .1 .0 in
+    let fit = start .pre .1 .1 .1 .1 .1 .1 .1 .1 in
+    (start .pre .1 .0, (sized, (fit, lacks-first sized (fit .shortFit) (c .before .before .before .before .before .before .before .before .before .before .before .before .before .before .before .before .before .before .before .reduce .ensures))))
 
 same-length-5 : tie.Need-same-length-5
-same-length-5 c = c .before .before .before .before .before .before .before .before .before .before .before .before .enter .kept .0
+same-length-5 c = c .before .before .before .before .before .before .before .before .before .before .before .before .before .before .before .before .before .before .before .before .before .before .before .before .before .before .before .before .before .before .ways .kept .1 .1 .0
 
 same-length-6 : tie.Need-same-length-6
-same-length-6 c = c .before .before .before .before .before .before .before .before .before .before .before .before .enter .kept .1 .0
+same-length-6 c = c .before .before .before .before .before .before .before .before .before .before .before .before .before .before .enter .kept .0
 
 same-length-7 : tie.Need-same-length-7
-same-length-7 c = c .before .before .before .before .before .before .before .before .before .before .before .before .enter .kept .1 .1 .0
+same-length-7 c = c .before .before .before .before .before .before .before .before .before .before .before .before .before .before .enter .kept .1 .0
 
 same-length-8 : tie.Need-same-length-8
-same-length-8 c = c .before .before .before .before .before .before .before .before .before .before .before .before .enter .kept .1 .1 .1 .0
+same-length-8 c = c .before .before .before .before .before .before .before .before .before .before .before .before .before .before .enter .kept .1 .1 .0
 
 same-length-9 : tie.Need-same-length-9
-same-length-9 c = c .before .before .before .before .before .before .before .before .before .before .before .before .enter .kept .1 .1 .1 .1 .0
+same-length-9 c = c .before .before .before .before .before .before .before .before .before .before .before .before .before .before .enter .kept .1 .1 .1 .0
 
 same-length-10 : tie.Need-same-length-10
-same-length-10 c = c .before .before .before .before .before .before .before .before .before .before .before .before .enter .kept .1 .1 .1 .1 .1 .0
+same-length-10 c = c .before .before .before .before .before .before .before .before .before .before .before .before .before .before .enter .kept .1 .1 .1 .1 .0
 
 same-length-11 : tie.Need-same-length-11
-same-length-11 c = c .before .before .before .before .before .before .before .before .before .before .before .before .before .before .before .before .before .before .before .before .before .put-size .kept .0
+same-length-11 c = c .before .before .before .before .before .before .before .before .before .before .before .before .before .before .enter .kept .1 .1 .1 .1 .1 .0
+
+same-length-12 : tie.Need-same-length-12
+same-length-12 c = c .before .before .before .before .before .before .before .before .before .before .before .before .before .before .enter .kept .1 .1 .1 .1 .1 .1 .0
+
+same-length-13 : tie.Need-same-length-13
+same-length-13 c = c .before .before .before .before .before .before .before .before .before .before .before .before .before .before .before .before .before .before .before .before .before .before .before .before .put-size .kept .0
 
 returns-2 : tie.Need-returns-2
 returns-2 c =
-    let at-enter = c .before .before .before .before .before .before .before .before .before .before .before .before in
-    let at-put-size = at-enter .before .before .before .before .before .before .before .before .before in
-    let at-add = at-put-size .before .before in
-    let at-ways = at-add .before .before .before .before in
-    let at-if1 = at-ways .before .before in
-    let at-is-empty = at-if1 .before in
-    let at-reduce = at-is-empty .before in
-    let at-empty = at-reduce .before .before .before .before in
-    let at-walk = at-empty .before .before in
-    let at-link = at-walk .before in
-    let start = at-link .before .before .before .before .before .before .before .before .before .before .before .before in
+    let start = c .before .before .before .before .before .before .before .before .before .before .before .before .before .before .before .before .before .before .before .before .before .before .before .before .before .before .before .before .before .before .before .before .before .before .before .before .before .before .before .before .before .before .before .before .before .before .before .before .before .before .before .before .before .before .before in
     let a = start .args in
-    let v = at-reduce .reduce in
-    let w = at-ways .ways in
-    let r = at-enter .enter .ensures in
+    let v = c .before .before .before .before .before .before .before .before .before .before .before .before .before .before .before .before .before .before .before .before .before .before .before .before .before .before .before .before .before .before .before .before .before .before .reduce in
+    let w = c .before .before .before .before .before .before .before .before .before .before .before .before .before .before .before .before .before .before .before .before .before .before .before .before .before .before .before .before .before .before .ways in
+    let r = c .before .before .before .before .before .before .before .before .before .before .before .before .before .before .enter .ensures in
     attempt-kept (a .n) (a .adj .now) (a .touch .now) (a .from) (a .layers .now) (a .d) (familyOf (a .f)) (a .s)
     (a .rows .now) (a .tags .now) (a .pivots .now) (a .labels .now) (a .holds .now) (a .out .now) (a .sizes .now)
-    (value (at-link .link .result)) (value (at-walk .walk .result)) (value (at-empty .empty .result)) (value (v .result .rest)) (value (v .result .used))
-    (at-link .link .ensures (a .f .k) (a .f .r)) (at-walk .walk .ensures) (at-empty .empty .ensures) (v .ensures .rest) (v .ensures .used)
-    (sym (at-is-empty .is-empty .ensures) ∙ at-if1 .if1 .left) (w .result .«from_p») (w .result .«from_q») (w .ensures .one) (w .ensures .other)
-    (at-add .add .ensures) (at-put-size .put-size .ensures) (r .is) (r .sized) (r .fit)
+    (value (c .before .before .before .before .before .before .before .before .before .before .before .before .before .before .before .before .before .before .before .before .before .before .before .before .before .before .before .before .before .before .before .before .before .before .before .before .before .before .before .before .before .before .link .result)) (value (c .before .before .before .before .before .before .before .before .before .before .before .before .before .before .before .before .before .before .before .before .before .before .before .before .before .before .before .before .before .before .before .before .before .before .before .before .before .before .before .before .before .walk .result)) (value (c .before .before .before .before .before .before .before .before .before .before .before .before .before .before .before .before .before .before .before .before .before .before .before .before .before .before .before .before .before .before .before .before .before .before .before .before .before .before .before .empty .result)) (value (v .result .rest)) (value (v .result .used))
+    (c .before .before .before .before .before .before .before .before .before .before .before .before .before .before .before .before .before .before .before .before .before .before .before .before .before .before .before .before .before .before .before .before .before .before .before .before .before .before .before .before .before .before .link .ensures (a .f .k) (a .f .r)) (c .before .before .before .before .before .before .before .before .before .before .before .before .before .before .before .before .before .before .before .before .before .before .before .before .before .before .before .before .before .before .before .before .before .before .before .before .before .before .before .before .before .walk .ensures) (c .before .before .before .before .before .before .before .before .before .before .before .before .before .before .before .before .before .before .before .before .before .before .before .before .before .before .before .before .before .before .before .before .before .before .before .before .before .before .before .empty .ensures) (v .ensures .rest) (v .ensures .used)
+    (sym (c .before .before .before .before .before .before .before .before .before .before .before .before .before .before .before .before .before .before .before .before .before .before .before .before .before .before .before .before .before .before .before .before .before .is-empty .ensures) ∙ c .before .before .before .before .before .before .before .before .before .before .before .before .before .before .before .before .before .before .before .before .before .before .before .before .before .before .before .before .before .before .before .before .if1 .left) (w .result .«from_p») (w .result .«from_q») (w .ensures .one) (w .ensures .other)
+    (c .before .before .before .before .before .before .before .before .before .before .before .before .before .before .before .before .before .before .before .before .before .before .before .before .before .before .add .ensures) (c .before .before .before .before .before .before .before .before .before .before .before .before .before .before .before .before .before .before .before .before .before .before .before .before .put-size .ensures) (r .is) (r .sized) (r .fit)
 
 pub attempt-spec : {M : Type 1} → statement M
 attempt-spec =
@@ -129,12 +123,12 @@ attempt-spec =
     same-length
     same-length-2
     same-length-3
+    same-length-4
     returns
     ways-requires
     add-requires
     put-size-requires
     enter-requires
-    same-length-4
     same-length-5
     same-length-6
     same-length-7
@@ -142,4 +136,6 @@ attempt-spec =
     same-length-9
     same-length-10
     same-length-11
+    same-length-12
+    same-length-13
     returns-2)

@@ -18,35 +18,35 @@ use Rattle.candidates.proofs.seek.Statement.{statement}
 use Rattle.candidates.proofs.seek.Tie as tie
 
 abbrev Inv-loop : tie.InvT-loop
-Inv-loop n adj touch layers counts₀ rows₀ tags₀ pivots₀ labels₀ holds₀ out₀ sizes₀ from k r d below at₀ going₀ counts rows tags pivots labels holds out sizes at going =
+Inv-loop n adj touch layers counts₀ rows₀ tags₀ pivots₀ place₀ labels₀ holds₀ out₀ sizes₀ from k r d below at₀ going₀ counts rows tags pivots place labels holds out sizes at going =
     Trying (λ f E. attempted (graph n adj touch) from layers ((k - 1) / 2) f E)
     (found (graph n adj touch) k r (getD layers (k / 2) 0) (getD layers (k / 2 - 1) 0))
     going₀ counts₀ rows₀ tags₀ pivots₀ labels₀ holds₀ out₀ sizes₀
-    (ahead n adj touch below k r at) going counts rows tags pivots labels holds out sizes
+    (ahead n adj touch below k r at) going counts rows tags pivots labels holds out sizes place
     × Stood below at × (at .qs ≡ 0 → (at .ps ≡ 0) × (at .xs ≡ 0))
 
 abbrev μ-loop : tie.MeasureT-loop
-μ-loop n adj touch layers counts₀ rows₀ tags₀ pivots₀ labels₀ holds₀ out₀ sizes₀ from k r d below at₀ going₀ counts rows tags pivots labels holds out sizes at going =
+μ-loop n adj touch layers counts₀ rows₀ tags₀ pivots₀ place₀ labels₀ holds₀ out₀ sizes₀ from k r d below at₀ going₀ counts rows tags pivots place labels holds out sizes at going =
     length (ahead n adj touch below k r at)
 
 sub-d : tie.Need-sub-d Inv-loop μ-loop
 sub-d c = search needs
 
 mul-below : tie.Need-mul-below Inv-loop μ-loop
-mul-below c = omega (arith, c .before .before .before .before .before .before .before .before .before .before .before .pre .1 .1 .1 .0 .deep)
+mul-below c = omega (arith, c .before .before .before .before .before .before .before .before .before .before .before .before .pre .1 .1 .1 .0 .deep)
 
 shared-slice-read-below : tie.Need-shared-slice-read-below Inv-loop μ-loop
-shared-slice-read-below c = omega (arith, c .before .before .before .before .before .before .before .before .before .before .before .before .pre .1 .1 .1 .0 .deep)
+shared-slice-read-below c = omega (arith, c .before .before .before .before .before .before .before .before .before .before .before .before .before .pre .1 .1 .1 .0 .deep)
 
 first-requires : tie.Need-first-requires Inv-loop μ-loop
 first-requires c κs =
-    let start = c .before .before .before .before .before .before .before .before .before .before .before .before in
+    let start = c .before .before .before .before .before .before .before .before .before .before .before .before .before in
     let place = start .pre .1 .1 .1 .0 in
     (start .pre .0, (place .atoms, (place .deep, refl)))
 
 loop-holds : tie.Need-loop-holds Inv-loop μ-loop
 loop-holds c =
-    let start = c .before .before .before .before .before .before .before .before .before .before .before .before .before in
+    let start = c .before .before .before .before .before .before .before .before .before .before .before .before .before .before in
     let a = start .args in
     let first = c .first .ensures in
     (trying-start (first .all (a .n) (a .touch .now) (a .r)) (start .pre .1 .1 .1 .1 .0) (start .pre .1 .1 .1 .1 .1), first .stood, first .over)
@@ -56,10 +56,10 @@ lowest-requires c κs = search needs
 
 attempt-requires : tie.Need-attempt-requires Inv-loop μ-loop
 attempt-requires c κs =
-    let at-lowest = c .before .before .before .before .before .before .before .before in
+    let at-lowest = c .before .before .before .before .before .before .before .before .before in
     let at-if1 = at-lowest .before in
     let at-loop = at-if1 .before .before in
-    let start = at-loop .before .before .before .before .before .before .before .before .before .before .before .before .before .before in
+    let start = at-loop .before .before .before .before .before .before .before .before .before .before .before .before .before .before .before in
     let a = start .args in
     let trying = at-loop .loop .inv .0 in
     let stood = at-loop .loop .inv .1 in
@@ -85,23 +85,23 @@ attempt-requires c κs =
 
 next-requires : tie.Need-next-requires Inv-loop μ-loop
 next-requires c κs =
-    let at-if1 = c .before .before .before .before .before .before .before .before .before .before .before .before .before .before .before .before .before .before .before .before .before .before .before .before .before .before in
+    let at-if1 = c .before .before .before .before .before .before .before .before .before .before .before .before .before .before .before .before .before .before .before .before .before .before .before .before .before .before .before .before .before in
     let at-loop = at-if1 .before .before in
-    let start = at-loop .before .before .before .before .before .before .before .before .before .before .before .before .before .before in
+    let start = at-loop .before .before .before .before .before .before .before .before .before .before .before .before .before .before .before in
     (start .pre .1 .1 .1 .0 .atoms, (at-loop .loop .inv .1, at-if1 .if1 .taken))
 
 loop-less : tie.Need-loop-less Inv-loop μ-loop
 loop-less c =
-    let at-loop = c .before .before .before .before .before .before .before .before .before .before .before .before .before .before .before .before .before .before .before .before .before .before .before .before .before .before .before .before .before in
-    let a = at-loop .before .before .before .before .before .before .before .before .before .before .before .before .before .before .args in
+    let at-loop = c .before .before .before .before .before .before .before .before .before .before .before .before .before .before .before .before .before .before .before .before .before .before .before .before .before .before .before .before .before .before .before .before in
+    let a = at-loop .before .before .before .before .before .before .before .before .before .before .before .before .before .before .before .args in
     omega (arith, ap (λ (l : List Family). length l) (c .next .ensures .next (a .n) (a .touch .now) (a .k) (a .r)))
 
 loop-again : tie.Need-loop-again Inv-loop μ-loop
 loop-again c =
-    let at-attempt = c .before .before .before .before .before .before .before .before .before .before .before .before .before .before .before .before .before in
-    let at-lowest = at-attempt .before .before .before .before .before .before .before .before .before in
+    let at-attempt = c .before .before .before .before .before .before .before .before .before .before .before .before .before .before .before .before .before .before .before in
+    let at-lowest = at-attempt .before .before .before .before .before .before .before .before .before .before in
     let at-loop = at-lowest .before .before .before in
-    let a = at-loop .before .before .before .before .before .before .before .before .before .before .before .before .before .before .args in
+    let a = at-loop .before .before .before .before .before .before .before .before .before .before .before .before .before .before .before .args in
     let at = at-loop .loop .at in
     let t = at-attempt .attempt in
     let passes = c .next .ensures in
@@ -109,7 +109,7 @@ loop-again c =
       trying-next (at-loop .loop .inv .0)
           (first ∙ ap (λ (q : ℕ). fam (a .k) (a .r) (at .x) (at .p) q ∷ ahead (a .n) (a .adj .now) (a .touch .now) (getD (a .layers .now) ((a .k - 1) / 2) 0) (a .k) (a .r) (c .next .result))
           (sym (at-lowest .lowest .ensures)))
-          (t .ensures) (t .kept .1 .1 .1 .1 .0) (t .kept .1 .1 .1 .1 .1 .1 .1 .1 .1 .1 .0) (t .kept .1 .1 .1 .1 .1 .1 .1 .1 .1 .1 .1 .0),
+          (t .ensures) (t .kept .1 .1 .1 .1 .0) (t .kept .1 .1 .1 .1 .1 .1 .1 .1 .1 .1 .1 .0) (t .kept .1 .1 .1 .1 .1 .1 .1 .1 .1 .1 .1 .1 .0),
       passes .stood,
       passes .over,
     )
@@ -127,21 +127,24 @@ same-length-4 : tie.Need-same-length-4 Inv-loop μ-loop
 same-length-4 c = c .before .before .loop .inv .0 .pivotsKept
 
 same-length-5 : tie.Need-same-length-5 Inv-loop μ-loop
-same-length-5 c = c .before .before .loop .inv .0 .labelsKept
+same-length-5 c = c .before .before .loop .inv .0 .sized .placeLong ∙ sym (c .before .before .before .before .before .before .before .before .before .before .before .before .before .before .before .before .before .pre .1 .1 .1 .1 .0 .placeLong)
 
 same-length-6 : tie.Need-same-length-6 Inv-loop μ-loop
-same-length-6 c = c .before .before .loop .inv .0 .holdsKept
+same-length-6 c = c .before .before .loop .inv .0 .labelsKept
 
 same-length-7 : tie.Need-same-length-7 Inv-loop μ-loop
-same-length-7 c = c .before .before .loop .inv .0 .outKept
+same-length-7 c = c .before .before .loop .inv .0 .holdsKept
 
 same-length-8 : tie.Need-same-length-8 Inv-loop μ-loop
-same-length-8 c = c .before .before .loop .inv .0 .sizesKept
+same-length-8 c = c .before .before .loop .inv .0 .outKept
+
+same-length-9 : tie.Need-same-length-9 Inv-loop μ-loop
+same-length-9 c = c .before .before .loop .inv .0 .sizesKept
 
 returns : tie.Need-returns Inv-loop μ-loop
 returns c =
     let at-loop = c .before .before in
-    let a = at-loop .before .before .before .before .before .before .before .before .before .before .before .before .before .before .args in
+    let a = at-loop .before .before .before .before .before .before .before .before .before .before .before .before .before .before .before .args in
     let at = at-loop .loop .at in
     let over = at-loop .loop .inv .2 (c .if1 .left) in
     seek-tries (graph (a .n) (a .adj .now) (a .touch .now)) (attempted (graph (a .n) (a .adj .now) (a .touch .now)) (a .from)) (a .k) (a .r) (a .layers .now)
@@ -171,4 +174,5 @@ seek-spec =
     same-length-6
     same-length-7
     same-length-8
+    same-length-9
     returns)

@@ -1,19 +1,20 @@
 -- The loop takes the lowest atom of the layer that remains; the counts of the layer before stay as they are, because the layers share no atom.
-use mathlib.Core.Path.{_≡_}
-use Prim.Native.Nat.{_<_}
+use mathlib.Core.Path.{_≡_, refl}
+use Prim.Native.Nat.{_+_, _<_}
 use native.Mathlib.Omega.{arith}
 use borrow.Author.Needs.{needs}
 use lib.Count.{trailing-le}
-use lib.ListN.{length}
+use lib.ListN.{length, getD}
 use Rattle.bondset.proofs.Laws.{pos-of-ne}
 use Rattle.bondset.proofs.Members.{and-pred-lt}
 use Rattle.model.specs.Layer.{low}
-use Rattle.counting.proofs.Tables.{low-lt, low-in, Filling, filling-start, filling-more, filling-end}
+use Rattle.counting.specs.Counts.{Others}
+use Rattle.counting.proofs.Tables.{low-lt, low-in, Filling, filling-start, filling-more, filling-end, others-more}
 use Rattle.counting.proofs.fill.Statement.{statement}
 use Rattle.counting.proofs.fill.Tie as tie
 
 abbrev Inv-loop : tie.InvT-loop
-Inv-loop adj layers counts₀ e rest₀ counts rest = (length counts ≡ length counts₀) × Filling adj layers e rest counts
+Inv-loop adj layers counts₀ e rest₀ counts rest = (length counts ≡ length counts₀) × Filling adj layers e rest counts × Others (getD layers (e + 1) 0) counts₀ counts
 
 abbrev μ-loop : tie.MeasureT-loop
 μ-loop adj layers counts₀ e rest₀ counts rest = rest
@@ -31,7 +32,7 @@ loop-holds : tie.Need-loop-holds Inv-loop μ-loop
 loop-holds c =
     let s = c .before .before .before .before in
     let a = s .args in
-    (search needs, filling-start (a .adj .now) (a .layers .now) (a .e) (s .pre .1 .0) (a .counts .now) (s .pre .1 .1))
+    (search needs, filling-start (a .adj .now) (a .layers .now) (a .e) (s .pre .1 .0) (a .counts .now) (s .pre .1 .1), record { stay = λ t z. refl })
 
 cast-t : tie.Need-cast-t Inv-loop μ-loop
 cast-t c = omega (arith, trailing-le 64 (c .before .loop .rest))
@@ -67,6 +68,7 @@ loop-again c =
       search needs,
       filling-more (a .adj .now) (a .layers .now) (a .e) (s .pre .1 .0) (b .rest) (b .counts) _ (omega arith) (b .inv .1)
           (pos-of-ne _ (c .before .before .loop-test .taken)) (c .total .ensures),
+      others-more (a .adj .now) (a .layers .now) (a .e) (s .pre .1 .0) (b .rest) (b .counts) _ (b .inv .1) (pos-of-ne _ (c .before .before .loop-test .taken)) (b .inv .2),
     )
 
 same-length : tie.Need-same-length Inv-loop μ-loop
@@ -75,7 +77,7 @@ same-length c = search needs
 returns : tie.Need-returns Inv-loop μ-loop
 returns c =
     let s = c .before .before .before .before .before .before in
-    filling-end _ _ _ (s .pre .1 .0) _ _ (c .before .loop .inv .1) (c .loop-test .left)
+    (filling-end _ _ _ (s .pre .1 .0) _ _ (c .before .loop .inv .1) (c .loop-test .left), c .before .loop .inv .2)
 
 pub fill-spec : {M : Type 1} → statement M
 fill-spec =

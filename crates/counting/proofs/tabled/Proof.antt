@@ -41,7 +41,7 @@ loop-less : tie.Need-loop-less Inv-loop μ-loop
 loop-less c = search needs
 
 loop-again : tie.Need-loop-again Inv-loop μ-loop
-loop-again c = (c .before .before .fill .ensures, omega arith, search needs)
+loop-again c = (c .before .before .fill .ensures .0, omega arith, search needs)
 
 -- Both atoms are among 64.
 p-lt : (s : tie.Start Inv-loop μ-loop) → s .args .p < 64

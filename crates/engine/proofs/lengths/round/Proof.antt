@@ -15,26 +15,26 @@ use Rattle.engine.proofs.lengths.round.Statement.{statement}
 use Rattle.engine.proofs.lengths.round.Tie as tie
 
 abbrev Inv-loop : tie.InvT-loop
-Inv-loop n adj touch tops full from layers₀ counts₀ rows₀ tags₀ pivots₀ labels₀ holds₀ out₀ table sizes₀ k s rest₀ going₀ layers counts rows tags pivots labels holds out sizes rest going =
+Inv-loop n adj touch tops full from layers₀ counts₀ rows₀ tags₀ pivots₀ place₀ labels₀ holds₀ out₀ table sizes₀ k s rest₀ going₀ layers counts rows tags pivots place labels holds out sizes rest going =
     (length layers ≡ length layers₀) × (length counts ≡ length counts₀) × (length out ≡ length out₀) × (length sizes ≡ length sizes₀)
-    × Sized rows tags pivots × Fit labels holds (going .tally)
+    × Sized rows tags pivots place (going .tally .index) (going .tally .marks) × Fit labels holds (going .tally)
     × Over (topLoop (graph n adj touch) (attempted (graph n adj touch) from) preceding k) tops
     (running layers₀ (engineOf s rows₀ tags₀ pivots₀ labels₀ holds₀ out₀ table sizes₀)) rest
     (running layers (engineOf going rows tags pivots labels holds out table sizes))
 
 abbrev μ-loop : tie.MeasureT-loop
-μ-loop n adj touch tops full from layers₀ counts₀ rows₀ tags₀ pivots₀ labels₀ holds₀ out₀ table sizes₀ k s rest₀ going₀ layers counts rows tags pivots labels holds out sizes rest going =
+μ-loop n adj touch tops full from layers₀ counts₀ rows₀ tags₀ pivots₀ place₀ labels₀ holds₀ out₀ table sizes₀ k s rest₀ going₀ layers counts rows tags pivots place labels holds out sizes rest going =
     rest
 
 returns : tie.Need-returns Inv-loop μ-loop
 returns c =
-    let z = c .before .before .before .before .before .before .before .before .before .before .before .before .before .before in
+    let z = c .before .before .before .before .before .before .before .before .before .before .before .before .before .before .before in
     let a = z .args in
     round-full (graph (a .n) (a .adj .now) (a .touch .now)) (a .from) (a .full) (a .k) (omega (arith, c .if1 .taken)) (z .pre .1 .1 .1 .1 .1 .1 .1 .0) (z .pre .1 .1 .1 .1 .1 .1 .1 .1)
 
 loop-holds : tie.Need-loop-holds Inv-loop μ-loop
 loop-holds c =
-    let z = c .before .before .before .before .before .before .before .before .before .before .before .before .before .before in
+    let z = c .before .before .before .before .before .before .before .before .before .before .before .before .before .before .before in
     (refl, refl, refl, refl, z .pre .1 .1 .1 .1 .1 .1 .1 .0, z .pre .1 .1 .1 .1 .1 .1 .1 .1, over-start _ (z .args .tops) _ (z .fits .tops .fits))
 
 lowest-requires : tie.Need-lowest-requires Inv-loop μ-loop
@@ -49,18 +49,18 @@ layers-requires : tie.Need-layers-requires Inv-loop μ-loop
 layers-requires c κs =
     let t = c .before .before .before in
     let l = t .before .loop in
-    let z = t .before .before .before .before .before .before .before .before .before .before .before .before .before .before .before .before in (
+    let z = t .before .before .before .before .before .before .before .before .before .before .before .before .before .before .before .before .before in (
       top-atom _ (pos-of-ne (l .rest) (t .loop-test .taken)) (c .before .before .lowest .ensures) (l .inv .6),
       (z .pre .1 .1 .1 .0, half-deep (z .args .k) _ _ (z .pre .1 .1 .0) (z .pre .1 .1 .1 .1 .1 .0) (l .inv .0)),
     )
 
 seek-requires : tie.Need-seek-requires Inv-loop μ-loop
 seek-requires c κs =
-    let v = c .before .before .before .before .before .before .before .before .before .before .before in
+    let v = c .before .before .before .before .before .before .before .before .before .before .before .before in
     let w = v .before .before .before in
     let t = w .before in
     let l = t .before .loop in
-    let g = t .before .before .before .before .before .before .before .before .before .before .before .before .before .before .before in
+    let g = t .before .before .before .before .before .before .before .before .before .before .before .before .before .before .before .before in
     let z = g .before in
     let a = z .args in
     let inside = top-atom _ (pos-of-ne (l .rest) (t .loop-test .taken)) (w .lowest .ensures) (l .inv .6) in (
@@ -84,23 +84,23 @@ others-requires c κs = tt
 
 loop-less : tie.Need-loop-less Inv-loop μ-loop
 loop-less c =
-    let t = c .before .before .before .before .before .before .before .before .before .before .before .before .before .before .before .before .before .before .before .before .before .before .before .before .before .before .before .before .before .before .before .before .before in
+    let t = c .before .before .before .before .before .before .before .before .before .before .before .before .before .before .before .before .before .before .before .before .before .before .before .before .before .before .before .before .before .before .before .before .before .before .before .before in
     let x = t .before .loop .rest in
     omega (arith, and-pred-lt x (pos-of-ne x (t .loop-test .taken)), c .others .ensures)
 
 loop-again : tie.Need-loop-again Inv-loop μ-loop
 loop-again c =
-    let u = c .before .before .before .before .before .before .before .before .before .before .before .before .before .before .before .before .before in
-    let v = u .before .before .before .before .before .before .before .before .before .before .before .before in
+    let u = c .before .before .before .before .before .before .before .before .before .before .before .before .before .before .before .before .before .before .before in
+    let v = u .before .before .before .before .before .before .before .before .before .before .before .before .before in
     let w = v .before .before .before in
     let t = w .before in
     let l = t .before .loop in
-    let a = t .before .before .before .before .before .before .before .before .before .before .before .before .before .before .before .before .args in
+    let a = t .before .before .before .before .before .before .before .before .before .before .before .before .before .before .before .before .before .args in
     let tried = u .seek .ensures in (
       v .layers .kept .1 .1 .1 .1 .0 ∙ l .inv .0,
       _∙_ {b = length (l .counts)} (u .seek .kept .1 .1 .1 .1 .0) (l .inv .1),
-      _∙_ {b = length (l .out)} (u .seek .kept .1 .1 .1 .1 .1 .1 .1 .1 .1 .1 .0) (l .inv .2),
-      _∙_ {b = length (l .sizes)} (u .seek .kept .1 .1 .1 .1 .1 .1 .1 .1 .1 .1 .1 .0) (l .inv .3),
+      _∙_ {b = length (l .out)} (u .seek .kept .1 .1 .1 .1 .1 .1 .1 .1 .1 .1 .1 .0) (l .inv .2),
+      _∙_ {b = length (l .sizes)} (u .seek .kept .1 .1 .1 .1 .1 .1 .1 .1 .1 .1 .1 .1 .0) (l .inv .3),
       tried .sized,
       tried .fit,
       top-turn (a .n) (a .adj .now) (a .touch .now) (a .from) (a .k) (w .lowest .result) (v .before .before .preceding .result)
@@ -111,7 +111,7 @@ loop-again c =
 settle-requires : tie.Need-settle-requires Inv-loop μ-loop
 settle-requires c κs =
     let l = c .before .before .before .before .before .before in
-    (omega (arith, l .before .before .before .before .before .before .before .before .before .before .before .before .before .before .before .pre .1 .1 .0), l .loop .inv .5)
+    (omega (arith, l .before .before .before .before .before .before .before .before .before .before .before .before .before .before .before .before .pre .1 .1 .0), l .loop .inv .5)
 
 same-length : tie.Need-same-length Inv-loop μ-loop
 same-length c = c .before .before .before .before .before .before .before .before .before .before .before .before .before .loop .inv .0
@@ -122,43 +122,48 @@ same-length-2 c = c .before .before .before .before .before .before .before .bef
 same-length-3 : tie.Need-same-length-3 Inv-loop μ-loop
 same-length-3 c =
     let l = c .before .before .before .before .before .before .before .before .before .before .before .before .before in
-    l .loop .inv .4 .rowsLong ∙ sym (l .before .before .before .before .before .before .before .before .before .before .before .before .before .before .before .pre .1 .1 .1 .1 .1 .1 .1 .0 .rowsLong)
+    l .loop .inv .4 .rowsLong ∙ sym (l .before .before .before .before .before .before .before .before .before .before .before .before .before .before .before .before .pre .1 .1 .1 .1 .1 .1 .1 .0 .rowsLong)
 
 same-length-4 : tie.Need-same-length-4 Inv-loop μ-loop
 same-length-4 c =
     let l = c .before .before .before .before .before .before .before .before .before .before .before .before .before in
-    l .loop .inv .4 .tagsLong ∙ sym (l .before .before .before .before .before .before .before .before .before .before .before .before .before .before .before .pre .1 .1 .1 .1 .1 .1 .1 .0 .tagsLong)
+    l .loop .inv .4 .tagsLong ∙ sym (l .before .before .before .before .before .before .before .before .before .before .before .before .before .before .before .before .pre .1 .1 .1 .1 .1 .1 .1 .0 .tagsLong)
 
 same-length-5 : tie.Need-same-length-5 Inv-loop μ-loop
 same-length-5 c =
     let l = c .before .before .before .before .before .before .before .before .before .before .before .before .before in
-    l .loop .inv .4 .pivotsLong ∙ sym (l .before .before .before .before .before .before .before .before .before .before .before .before .before .before .before .pre .1 .1 .1 .1 .1 .1 .1 .0 .pivotsLong)
+    l .loop .inv .4 .pivotsLong ∙ sym (l .before .before .before .before .before .before .before .before .before .before .before .before .before .before .before .before .pre .1 .1 .1 .1 .1 .1 .1 .0 .pivotsLong)
 
 same-length-6 : tie.Need-same-length-6 Inv-loop μ-loop
 same-length-6 c =
     let l = c .before .before .before .before .before .before .before .before .before .before .before .before .before in
-    c .before .before .before .before .before .before .settle .kept .0 ∙ l .loop .inv .5 .labelsLong ∙ sym (l .before .before .before .before .before .before .before .before .before .before .before .before .before .before .before .pre .1 .1 .1 .1 .1 .1 .1 .1 .labelsLong)
+    l .loop .inv .4 .placeLong ∙ sym (l .before .before .before .before .before .before .before .before .before .before .before .before .before .before .before .before .pre .1 .1 .1 .1 .1 .1 .1 .0 .placeLong)
 
 same-length-7 : tie.Need-same-length-7 Inv-loop μ-loop
 same-length-7 c =
     let l = c .before .before .before .before .before .before .before .before .before .before .before .before .before in
-    l .loop .inv .5 .holdsLong ∙ sym (l .before .before .before .before .before .before .before .before .before .before .before .before .before .before .before .pre .1 .1 .1 .1 .1 .1 .1 .1 .holdsLong)
+    c .before .before .before .before .before .before .settle .kept .0 ∙ l .loop .inv .5 .labelsLong ∙ sym (l .before .before .before .before .before .before .before .before .before .before .before .before .before .before .before .before .pre .1 .1 .1 .1 .1 .1 .1 .1 .labelsLong)
 
 same-length-8 : tie.Need-same-length-8 Inv-loop μ-loop
-same-length-8 c = c .before .before .before .before .before .before .settle .kept .1 .1 .0 ∙ c .before .before .before .before .before .before .before .before .before .before .before .before .before .loop .inv .2
+same-length-8 c =
+    let l = c .before .before .before .before .before .before .before .before .before .before .before .before .before in
+    l .loop .inv .5 .holdsLong ∙ sym (l .before .before .before .before .before .before .before .before .before .before .before .before .before .before .before .before .pre .1 .1 .1 .1 .1 .1 .1 .1 .holdsLong)
 
 same-length-9 : tie.Need-same-length-9 Inv-loop μ-loop
-same-length-9 c = c .before .before .before .before .before .before .settle .kept .1 .1 .1 .0
+same-length-9 c = c .before .before .before .before .before .before .settle .kept .1 .1 .0 ∙ c .before .before .before .before .before .before .before .before .before .before .before .before .before .loop .inv .2
 
 same-length-10 : tie.Need-same-length-10 Inv-loop μ-loop
-same-length-10 c = c .before .before .before .before .before .before .before .before .before .before .before .before .before .loop .inv .3
+same-length-10 c = c .before .before .before .before .before .before .settle .kept .1 .1 .1 .0
+
+same-length-11 : tie.Need-same-length-11 Inv-loop μ-loop
+same-length-11 c = c .before .before .before .before .before .before .before .before .before .before .before .before .before .loop .inv .3
 
 returns-2 : tie.Need-returns-2 Inv-loop μ-loop
 returns-2 c =
     let v = c .before .before .before .before .before .before in
     let t = v .before .before .before .before .before .before in
     let l = t .before in
-    let z = l .before .before .before .before .before .before .before .before .before .before .before .before .before .before .before in
+    let z = l .before .before .before .before .before .before .before .before .before .before .before .before .before .before .before .before in
     let a = z .args in
     round-is (graph (a .n) (a .adj .now) (a .touch .now)) (a .from) (a .full) (a .k) (z .pre .0) (omega (arith, l .before .if1 .left))
     (over-end _ (t .loop-test .left) (l .loop .inv .6)) (l .loop .inv .4) (v .settle .ensures)
@@ -189,4 +194,5 @@ round-spec =
     same-length-8
     same-length-9
     same-length-10
+    same-length-11
     returns-2)

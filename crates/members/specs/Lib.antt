@@ -1,0 +1,3 @@
+-- The definitions that the contracts of members cite.
+pub mod Listed
+pub mod Ordered
