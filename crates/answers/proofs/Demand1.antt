@@ -121,6 +121,7 @@ module _ (n : ℕ) (bonds rows class_rows : List ℕ) (i : ℕ) where
   )
 
   refused_7_case : {place : ℕ} {left left' : List ℕ} → Answers (refused 7 place) left left' → Case7 n bonds rows class_rows i place
+  refused_7_case (Answered.by_input h) = elim h [ ]
   refused_7_case (Answered.by_rows {R = R} a r h) = (R, record { accepted = a; right = r }, h, refl)
 
   -- Refusal 7: "kept families exceed the lent rows".
@@ -131,6 +132,7 @@ module _ (n : ℕ) (bonds rows class_rows : List ℕ) (i : ℕ) where
   )
 
   refused_8_case : {place : ℕ} {left left' : List ℕ} → Answers (refused 8 place) left left' → Case8 n bonds rows class_rows i place
+  refused_8_case (Answered.by_input h) = elim h [ ]
   refused_8_case (Answered.by_class_rows {R = R} a r h l) = (R, record { accepted = a; right = r }, h, l, refl)
 
   -- Refusal 8: "classes exceed the lent rows".
@@ -141,6 +143,7 @@ module _ (n : ℕ) (bonds rows class_rows : List ℕ) (i : ℕ) where
   )
 
   refused_9_case : {place : ℕ} {left left' : List ℕ} → Answers (refused 9 place) left left' → Case9 n bonds rows class_rows i place
+  refused_9_case (Answered.by_input h) = elim h [ ]
   refused_9_case (Answered.by_rings {R = R} a r h l m) = (R, record { accepted = a; right = r }, h, l, m, refl)
 
   -- Refusal 9: "rings would exceed 18,446,744,073,709,551,615".

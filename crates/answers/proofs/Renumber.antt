@@ -33,6 +33,7 @@ use Rattle.answers.proofs.RenumberCounts.{Paired, exactly_unique, exactly_paired
 class_list_at : (rows : List Row) (k : ℕ) (ts : List ClassRow) {j : ℕ} {x : Class} (i : ℕ) → At (class_list rows k ts) j x → i ≡ k + j
     → (t : ClassRow) × At ts j t × (x ≡ class_of rows i t)
 unfolding class_list
+class_list_at rows k [] i h e = elim h [ ]
 class_list_at rows k (t ∷ ts) i At.here e = (t, At.here, ap (λ (l : ℕ). class_of rows l t) (omega arith))
 class_list_at rows k (t ∷ ts) i (At.later a) e = let (s, b, d) = class_list_at rows (suc k) ts i a (omega arith) in (s, At.later b, d)
 

@@ -31,7 +31,8 @@ use Rattle.answers.specs.Classes.{sizes_of, rings_of_length, rings_of_class}
 
 module _ {X Y : Type 0} (f : X → Y) where
   -- An element of the images is the image of an element.
-  map_element : {y : Y} (xs : List X) → y ∈ map f xs → (x : X) × (x ∈ xs) × (y ≡ f x)
+  map_element : (xs : List X) {y : Y} → y ∈ map f xs → (x : X) × (x ∈ xs) × (y ≡ f x)
+  map_element [] h = elim h [ ]
   map_element (x ∷ xs) ◌∈◌.first = (x, ◌∈◌.first, refl)
   map_element (x ∷ xs) (◌∈◌.later h) = let (z, i, e) = map_element xs h in (z, ◌∈◌.later i, e)
 

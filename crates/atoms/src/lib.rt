@@ -2,6 +2,9 @@
 //!
 //! Atom k is in a set if bit k of the word is 1. Each function promises what the model of the same name computes, for any words. That an
 //! atom precedes another is said in one place, `preceding`, by the number of the atom.
+
+#![tactic(auto)]
+
 ghost use Rattle.std.specs.Prelude.{◌≡◌, ◌-◌, ◌<◌, ◌≤◌, length};
 ghost use Rattle.std.specs.Int.Bits.{bit_and};
 ghost use Rattle.std.specs.Int.Count.{count_trailing_zeros};

@@ -1,9 +1,9 @@
 -- The loops of a reduction by an index, one turn at a time: what is left of the loop gives the same in the end.
 use mathlib.Core.Path.{◌≡◌, sym, ap, ◌∙◌}
-use mathlib.Core.Bool.{Bool, true, false, not}
+use mathlib.Core.Bool.{Bool, true, false}
 use mathlib.Core.List.{List}
 use Prim.Native.Nat.{ℕ, ◌-◌, ◌^◌, ◌<◌}
-use borrow.Author.Tests.{eqb-true, eqb-false, not_true, not-false}
+use borrow.Author.Tests.{eqb-true, eqb-false}
 use lib.Bits.{bit_and}
 use lib.Count.{count_trailing_zeros}
 use lib.Dec.{eqb}
@@ -14,11 +14,11 @@ use Rattle.bondset.proofs.Laws.{pos_of_ne}
 use Rattle.bondset.proofs.Members.{members_zero, members_step, and_pred_lt}
 
 -- a set that the test finds not empty, or empty
-pub some_left : (s : ℕ) (b : Bool) → b ≡ eqb s 0 → not b ≡ true → 0 < s
-some_left s b e h = pos_of_ne s (eqb-false s 0 (sym e ∙ not_true b h))
+pub some_left : (s : ℕ) (b : Bool) → b ≡ eqb s 0 → b ≡ false → 0 < s
+some_left s b e h = pos_of_ne s (eqb-false s 0 (sym e ∙ h))
 
-pub none_left : (s : ℕ) (b : Bool) → b ≡ eqb s 0 → not b ≡ false → s ≡ 0
-none_left s b e h = eqb-true s 0 (sym e ∙ not-false b h)
+pub none_left : (s : ℕ) (b : Bool) → b ≡ eqb s 0 → b ≡ true → s ≡ 0
+none_left s b e h = eqb-true s 0 (sym e ∙ h)
 
 -- a turn leaves less
 pub left_less : (s t : ℕ) → 0 < s → t ≡ bit_and s (s - 1) → t < s

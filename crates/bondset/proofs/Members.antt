@@ -40,19 +40,24 @@ mem_of_bit (suc n) s k h e =
     last b q e = rw (e, q) first
 
 ∈-ifSet-eq : (b : ℕ) {x k : ℕ} → x ∈ if_set b k → x ≡ k
+∈-ifSet-eq zero x3 = elim x3 [ ]
+∈-ifSet-eq (suc b) (later x7) = elim x7 [ ]
 ∈-ifSet-eq (suc b) first = refl
 
 ∈-ifSet-pos : (b k : ℕ) {x : ℕ} → x ∈ if_set b k → 0 < b
+∈-ifSet-pos zero k m = elim m [ ]
 ∈-ifSet-pos (suc b) k m = omega arith
 
 pub lt_of_mem : (n s k : ℕ) → k ∈ members n s → k < n
 unfolding members
+lt_of_mem zero s k m = elim m [ ]
 lt_of_mem (suc n) s k m =
     ⊎_elim (λ (l : k ∈ members n s). omega (arith, lt_of_mem n s k l)) (λ (l : k ∈ if_set (bit s n) n). omega (arith, ∈-ifSet-eq (bit s n) l))
     (in_append (members n s) (if_set (bit s n) n) m)
 
 pub bit_of_mem : (n s k : ℕ) → k ∈ members n s → bit s k ≡ 1
 unfolding members
+bit_of_mem zero s k m = elim m [ ]
 bit_of_mem (suc n) s k m =
     ⊎_elim (λ (l : k ∈ members n s). bit_of_mem n s k l)
     (λ (l : k ∈ if_set (bit s n) n). rw (∈-ifSet-eq (bit s n) l) (omega (arith, ∈-ifSet-pos (bit s n) n l, bit_lt s n)))

@@ -12,7 +12,7 @@ use crate::BondSet;
 use crate::reduction::Reduced;
 
 /// How rows are found.
-#[derive(Drop)]
+#[derive(Clone, Copy)]
 pub struct Index {
     /// Pivots that no other row holds: `place` has their rows.
     pub fresh: BondSet,

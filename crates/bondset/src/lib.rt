@@ -4,6 +4,9 @@
 //! sums, intersections, single bonds, membership, length, the lowest bond, the bonds from one on, and the set as 12 bytes.
 //! A byte beyond the end of a list counts as 0.
 //! Each of these answers for every input, and nothing is assumed of what the bonds join.
+
+#![tactic(auto)]
+
 ghost use Rattle.std.specs.Prelude.{◌≡◌, ◌+◌, ◌-◌, ◌*◌, ◌/◌, ◌^◌, ◌<◌, ◌≤◌, min, eqb, length, get_or, drop};
 ghost use Rattle.std.specs.Int.Bits.{bit_xor, bit_and};
 ghost use Rattle.std.specs.Int.Count.{count_trailing_zeros};
@@ -16,7 +19,7 @@ pub mod indexed;
 pub mod reduction;
 
 /// A set of bonds: bond k is in it if bit k is 1, counted from the lowest bit of `lo` through `hi`.
-#[derive(Drop)]
+#[derive(Clone, Copy)]
 pub struct BondSet {
     /// Bonds 0 to 63.
     pub lo: u64,

@@ -9,7 +9,7 @@ ghost use Rattle.bondset.specs.Reduction.{Room, Reduces, Pushes};
 use crate::BondSet;
 
 /// A set on its way through the rows.
-#[derive(Drop)]
+#[derive(Clone, Copy)]
 pub struct Reduced {
     /// What remains of the set.
     pub rest: BondSet,

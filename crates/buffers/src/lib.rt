@@ -1,6 +1,9 @@
 //! Filling a lent buffer: with the first bytes of another, with the sizes at hand, or with zeros.
 //!
 //! Each function promises what every byte or word of the buffer is afterwards, those that it does not touch among them.
+
+#![tactic(auto)]
+
 ghost use Rattle.std.specs.Prelude.{◌≡◌, ℕ, ◌<◌, ◌≤◌, length, get_or, replicate};
 ghost use Rattle.std.proofs.Math.Seq.{paste};
 

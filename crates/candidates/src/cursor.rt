@@ -4,7 +4,7 @@ ghost use Rattle.candidates.specs.Cursor.{partners_in, Stood, Sticks, Moves, Fol
 
 /// The candidates still to come: those with this x and this p and a q of `qs`, then those with this x and a p of `ps`, whose partners are in
 /// `all`, and then those with an x of `xs`.
-#[derive(Drop)]
+#[derive(Clone, Copy)]
 pub struct Cursor {
     /// The atoms x to come.
     pub xs: u64,

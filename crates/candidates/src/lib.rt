@@ -2,6 +2,9 @@
 //!
 //! A cursor passes the candidates, and what one of them does to the lent arrays is exactly what the definitions of `specs/Engine.antt` say,
 //! which are those of the plan in `model` over rows of bytes. The number of atoms, `n`, goes along for the contracts alone.
+
+#![tactic(auto)]
+
 ghost use Rattle.std.specs.Prelude.{◌≡◌, cond, ◌*◌, ◌/◌, ◌<◌, ◌≤◌, ltb, get_or};
 ghost use Rattle.bondset.specs.Sets.{bit};
 ghost use Rattle.model.specs.Loops.{seek as seekOf};
@@ -19,7 +22,7 @@ use rows::Family;
 pub mod cursor;
 
 /// What has been counted so far, and the number of rings.
-#[derive(Drop)]
+#[derive(Clone, Copy)]
 pub struct Going {
     /// Marked rings, families, classes and the total length.
     pub tally: Tally,

@@ -1,10 +1,13 @@
 //! Run cases as tables: named cases in one byte string, taken off one by one by the programs that run them.
 //!
 //! A case is its name, `|`, what it is run on, and `~`. Neither of the two bytes stands in a name or in what follows it.
+
+#![tactic(auto)]
+
 ghost use Rattle.std.specs.Prelude.{◌≤◌, length};
 
 /// The places of a table's first case.
-#[derive(Drop)]
+#[derive(Clone, Copy)]
 pub struct Case {
     /// Where its name ends.
     pub name: usize,

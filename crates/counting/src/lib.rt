@@ -3,6 +3,9 @@
 //! Promises: the number of paths is exactly what the engine's plan in `model` says, for any lent words in which no two layers share an atom,
 //! which the layers of the plan never do, and then it fits a word. A running count of rings is exact up to the largest word, and is flagged as
 //! soon as there are more.
+
+#![tactic(auto)]
+
 ghost use Rattle.std.specs.Prelude.{◌≡◌, true, [], ℕ, ◌+◌, ◌*◌, ◌-◌, ◌^◌, ◌<◌, ◌≤◌, length, get_or};
 ghost use Rattle.bondset.specs.Sets.{bit};
 ghost use Rattle.model.specs.Layer.{ways};
@@ -10,7 +13,7 @@ ghost use Rattle.paths.specs.Nets.{net};
 ghost use Rattle.counting.specs.Counts.{Disjoint, Sized, Table, Others, Counted, added};
 
 /// How many paths lead to the top from each of two atoms.
-#[derive(Drop)]
+#[derive(Clone, Copy)]
 pub struct PathCounts {
     /// Paths from the one.
     pub from_p: u64,
@@ -141,7 +144,7 @@ pub fn ways(
 }
 
 /// A number of rings that keeps within a word.
-#[derive(Drop)]
+#[derive(Clone, Copy)]
 pub struct Count {
     /// The number of rings, or the largest word if there are more.
     pub rings: u64,

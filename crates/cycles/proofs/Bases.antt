@@ -138,6 +138,7 @@ module _ (c : Compound) (rank : ℕ → ℕ) where
 
   prototype_listed : {f : Family} {rows : List Row} {Ss : List ℕ} → Prototypes rows Ss → f ∈ map (λ row. row.family) rows
       → (S : ℕ) × (S ∈ Ss) × Prototype c rank f S
+  prototype_listed none i = elim i [ ]
   prototype_listed (Prototypes.more {S = S} p ps) ◌∈◌.first = (S, ◌∈◌.first, p)
   prototype_listed (Prototypes.more p ps) (◌∈◌.later i) = let (S, j, q) = prototype_listed ps i in (S, ◌∈◌.later j, q)
 

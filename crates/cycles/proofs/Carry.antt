@@ -105,7 +105,7 @@ module _ (c : Compound) (sound : Sound c) where
   pub graph_closed : {S : ℕ} → S < 2 ^ m c → ClosedIn (graph_of c) (holds S) → Closed c S
   graph_closed {S} l h = record { bonds = l; even = λ a. rw (degree_deg S a) (closed_even (graph_of c) (holds S) h a) }
 
-  along_joined : {S a b : ℕ} → Along c S b a → Joined (graph_of c) (holds S) a b
+  along_joined : {S b a : ℕ} → Along c S b a → Joined (graph_of c) (holds S) a b
   along_joined {S} {b = b} here = joined_refl (graph_of c) (holds S) b
   along_joined {S} {b = b} (step {k = k} {a = a} {next = next} e j r) =
       let J = joins_graph c j in

@@ -370,7 +370,7 @@ module _ (c : Compound) (sound : Sound c) where
   image_joins {k} j = at bond_sets (boundary_joins c sound j) (ranked.image_spans (2 ^ k) (span_singles (m c) (2 ^ k) (pow-lt (joins_below c j))))
 
   -- The two ends of a walk are the boundary of some bond set.
-  image_walk : {a b steps : ℕ} → Walk c b a steps → Span bond_sets (map (boundary c) ranked.chosen) (bit_xor (2 ^ a) (2 ^ b))
+  image_walk : {b a steps : ℕ} → Walk c b a steps → Span bond_sets (map (boundary c) ranked.chosen) (bit_xor (2 ^ a) (2 ^ b))
   unfolding bond_sets
   image_walk {b} Walk.here = at bond_sets (sym (xor_self (2 ^ b))) (span-zero bond_sets _)
   image_walk {b} (Walk.step {a = a} {next = next} (k, j) w) =

@@ -48,7 +48,9 @@ visits_in u (go k w p) a v = ⊎_elim (λ e. rw (same_eq u a e) first) (λ e. la
 
 -- An atom on the path of a walk is visited.
 pub in_visits : (u : ℕ) (p : Steps) (a : ℕ) → a ∈ (u ∷ atoms p) → visits u p a ≡ true
-in_visits u p a first = or_l (same u u) (heads p u) (same_is u u refl)
+in_visits u end a first = or_l (same u u) (heads end u) (same_is u u refl)
+in_visits u end a (later i) = elim i [ ]
+in_visits u (go k w p) a first = or_l (same u u) (heads (go k w p) u) (same_is u u refl)
 in_visits u (go k w p) a (later i) = or_r (same u a) (visits w p a) (in_visits w p a i)
 
 once_distinct : (u : ℕ) (p : Steps) → Once (u ∷ atoms p) → Distinct u p

@@ -14,12 +14,12 @@ use Rattle.cycles.proofs.PathsDecide.{joins_sym}
 
 module _ (c : Compound) where
   -- A way goes on by another.
-  pub along_trans : {S a b d : ℕ} → Along c S b a → Along c S d b → Along c S d a
+  pub along_trans : {S b a d : ℕ} → Along c S b a → Along c S d b → Along c S d a
   along_trans Along.here s = s
   along_trans (Along.step h j r) s = Along.step h j (along_trans r s)
 
   -- A way leads back.
-  pub along_sym : {S a b : ℕ} → Along c S b a → Along c S a b
+  pub along_sym : {S b a : ℕ} → Along c S b a → Along c S a b
   along_sym Along.here = Along.here
   along_sym (Along.step h j r) = along_trans (along_sym r) (Along.step h (joins_sym c j) Along.here)
 

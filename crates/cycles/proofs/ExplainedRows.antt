@@ -149,6 +149,7 @@ module _ (c : Compound) (rank : ℕ → ℕ) where
   -- A number that names a ring is that of a row with mark 1.
   named_marked : {rows : List Row} {numbers Ss : List ℕ} {i : ℕ} → Named c rank rows numbers Ss → i ∈ numbers
       → (row : Row) × At rows i row × (row.mark ≡ 1)
+  named_marked Named.none a = elim a [ ]
   named_marked (Named.more {row = row} a e p n) ◌∈◌.first = (row, a, e)
   named_marked (Named.more a e p n) (◌∈◌.later i) = named_marked n i
 

@@ -10,7 +10,7 @@ use native.Mathlib.Omega.{arith}
 use borrow.Author.Tests.{eq-eqb, ne_eqb}
 use lib.Dec.{eqb}
 use lib.ListN.{length}
-use Rattle.spans.specs.Elements.{◌∈◌, Once}
+use Rattle.spans.specs.Elements.{◌∈◌, Once, later}
 use Rattle.spans.specs.Graded.{total}
 use Rattle.cycles.specs.Compound.{Compound, Joins, Bonded, Distance}
 use Rattle.cycles.specs.Family.{Precedes, Down}
@@ -185,6 +185,7 @@ module _ (c : Compound) (rank : ℕ → ℕ) where
 
   parts_from : {r p d a t e i : ℕ} {U A : List ℕ} → Fall r p d a i U → Down c rank r a i A → t ∈ A → Distance c t r e → Parts r p d t e (onto U A)
   unfolding onto
+  parts_from fall Down.top (later h) far = elim h [ ]
   parts_from fall Down.top ◌∈◌.first far = parts_here (distance_unique c (down_far c rank Down.top) far) fall Down.top
   parts_from fall (Down.step before far' bond down) ◌∈◌.first far =
       parts_here (distance_unique c far' far) fall (Down.step before far' bond down)
@@ -278,6 +279,7 @@ module _ (c : Compound) (rank : ℕ → ℕ) where
     pub down : (P : List ℕ) × Down c rank r a e P
 
   pub passed : {r t d a : ℕ} {P : List ℕ} → Down c rank r t d P → a ∈ P → Passed r d a
+  passed Down.top (later h) = elim h [ ]
   passed Down.top ◌∈◌.first = record { e = 0; near = omega arith; down = (_, Down.top) }
   passed (Down.step {d} before far bond down) ◌∈◌.first = record { e = suc d; near = omega arith; down = (_, Down.step before far bond down) }
   passed (Down.step before far bond down) (◌∈◌.later h) =

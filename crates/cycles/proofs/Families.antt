@@ -47,7 +47,7 @@ module _ (c : Compound) (sound : Sound c) (rank : ℕ → ℕ) where
   pub chosen_unique : {r t d : ℕ} {P Q : List ℕ} → Chosen c rank r t d P → Chosen c rank r t d Q → P ≡ Q
   chosen_unique = chosen_same refl
 
-  chosen_from : {r t : ℕ} (d : ℕ) {P : List ℕ} → Down c rank r t d P → (Q : List ℕ) × Chosen c rank r t d Q
+  chosen_from : {r : ℕ} (d : ℕ) {t : ℕ} {P : List ℕ} → Down c rank r t d P → (Q : List ℕ) × Chosen c rank r t d Q
   chosen_from zero Down.top = (_, Chosen.top)
   chosen_from {r} (suc d) (Down.step before far bond down) =
       let low = lowest_next c sound rank r bond down in

@@ -46,6 +46,7 @@ module _ (c : Compound) (rank : ℕ → ℕ) where
     -- A row is marked, or its prototype is a sum of those marked before it. Q is what the rows before it have.
     marked_or_summed : {i : ℕ} {row : Row} {rows : List Row} {before after : List ℕ} → Marks c rank before rows after → At rows i row
         → ((j : ℕ) (u : Row) → j < i → At rows j u → Q u) → All PrototypeOf before → (row.mark ≡ 1) ⊎ Summed row after
+    marked_or_summed Marks.end p q a = elim p [ ]
     marked_or_summed (Marks.marked p n e m) At.here q a = inl e
     marked_or_summed (Marks.unmarked {before = before} {S = S} p s e m) At.here q a =
         let (rest, d) = marks_front m in

@@ -16,6 +16,7 @@ use Rattle.cycles.proofs.Ranks.{at_element, at_below, at_unique, at_append, at_e
 -- Each has a number.
 pub numbered_at : {X : Type 0} {Rel : X → X → Type 0} {before xs after : List X} {numbers : List ℕ} {i : ℕ} {x : X}
     → Numbered Rel before xs numbers after → At xs i x → (k : ℕ) × At numbers i k
+numbered_at Numbered.end a = elim a [ ]
 numbered_at (Numbered.old b t n) At.here = (_, At.here)
 numbered_at (Numbered.new f e n) At.here = (_, At.here)
 numbered_at (Numbered.old b t n) (At.later a) = let (k, p) = numbered_at n a in (k, At.later p)
@@ -33,8 +34,9 @@ module _ {X : Type 0} (Rel : X → X → Type 0) where
     listed : At firsts k first
     related : Rel x first
 
-  numbered_first : {before xs after : List X} {numbers : List ℕ} {i k : ℕ} {x : X} → All (λ y. Rel y y) xs → Numbered Rel before xs numbers after
-      → At xs i x → At numbers i k → First after x k
+  numbered_first : {xs : List X} → All (λ y. Rel y y) xs → {before after : List X} {numbers : List ℕ} {i k : ℕ} {x : X}
+      → Numbered Rel before xs numbers after → At xs i x → At numbers i k → First after x k
+  numbered_first All.nil n p q = elim p [ ]
   numbered_first (All.cons r a) (Numbered.old {g = g} b t n) At.here At.here = record { first = g; listed = numbered_extend n b; related = t }
   numbered_first (All.cons r a) (Numbered.new {before = before} {x = x} f e n) At.here At.here = record {
     first = x;

@@ -1,5 +1,5 @@
 -- Demand 2, of the rows of a right report: every relevant ring is in exactly one of them, and every member of one is relevant.
-use mathlib.Core.Path.{◌≡◌, refl, ap, subst}
+use mathlib.Core.Path.{◌≡◌, refl, sym, ap, subst}
 use mathlib.Core.List.{List, map}
 use Prim.Native.Nat.{ℕ, suc, ◌<◌}
 use Rattle.spans.specs.Elements.{◌∈◌}
@@ -17,11 +17,14 @@ pub at_map : {X Y : Type 0} (f : X → Y) {x : X} {xs : List X} {k : ℕ} → At
 at_map f At.here = At.here
 at_map f (At.later a) = At.later (at_map f a)
 
+equal_place : {fs : List Family} {f g : Family} {j k : ℕ} → Ascending fs → f ≡ g → At fs j f → At fs k g → j ≡ k
+equal_place a e At.here At.here = refl
+equal_place a e At.here (At.later {xs = xs} q) = absurd (ascending_fresh a (subst (λ h. h ∈ xs) (sym e) (at_element q)))
+equal_place a e (At.later {xs = xs} p) At.here = absurd (ascending_fresh a (subst (λ h. h ∈ xs) e (at_element p)))
+equal_place a e (At.later p) (At.later q) = ap suc (equal_place (ascending_rest a) e p q)
+
 ascending_place : {fs : List Family} {f : Family} {j k : ℕ} → Ascending fs → At fs j f → At fs k f → j ≡ k
-ascending_place a At.here At.here = refl
-ascending_place a At.here (At.later q) = absurd (ascending_fresh a (at_element q))
-ascending_place a (At.later p) At.here = absurd (ascending_fresh a (at_element p))
-ascending_place a (At.later p) (At.later q) = ap suc (ascending_place (ascending_rest a) p q)
+ascending_place a p q = equal_place a refl p q
 
 module _ (c : Compound) (rank : ℕ → ℕ) where
   -- C is a member of the family of the row at one place, and of no other row.

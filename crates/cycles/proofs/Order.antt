@@ -24,6 +24,7 @@ ascending_at a (At.later p) (At.later q) h = ascending_at (ascending_rest a) p q
 
 -- What stands in a list of families stands there as the family of a row.
 at_unmap : (rows : List Row) {k : ℕ} {f : Family} → At (map (λ row. row.family) rows) k f → (row : Row) × At rows k row × (row.family ≡ f)
+at_unmap [] a = elim a [ ]
 at_unmap (row ∷ rows) At.here = (row, At.here, refl)
 at_unmap (row ∷ rows) (At.later a) = let (u, b, e) = at_unmap rows a in (u, At.later b, e)
 
@@ -37,6 +38,7 @@ module _ (c : Compound) (rank : ℕ → ℕ) where
   -- A class number is one of those before the rows, or that of an earlier row, or one more than all of these.
   classes_earlier : {before after : List Family} {rows : List Row} {k g : ℕ} {row : Row} → Classes c rank before rows after → At rows k row → g < row.class
       → (g < length before) ⊎ ((j : ℕ) × (j < k) × OfClassAt rows j g)
+  classes_earlier Classes.end a h = elim a [ ]
   classes_earlier (Classes.old b t r) At.here h = inl (omega (arith, at_below b))
   classes_earlier (Classes.new n e r) At.here h = inl (omega (arith, e))
   classes_earlier (Classes.old b t r) (At.later a) h = elim (classes_earlier r a h) [

@@ -8,7 +8,7 @@ use lib.Bits.{bit_xor, xor_zero_l}
 use Rattle.bondset.proofs.Laws.{xor_assoc}
 use Rattle.graphs.specs.AtomList.{last_l}
 use lib.ListN.{length}
-use Rattle.spans.specs.Elements.{◌∈◌, Once}
+use Rattle.spans.specs.Elements.{◌∈◌, Once, later}
 use Rattle.cycles.specs.Compound.{Compound, Joins, Walk, Distance, Sound}
 use Rattle.cycles.specs.Ring.{Edges}
 use Rattle.cycles.specs.Family.{Precedes, Down}
@@ -65,12 +65,14 @@ module _ (c : Compound) (rank : ℕ → ℕ) where
   down_first (Down.step before far bond down) = ◌∈◌.first
 
   pub down_precede : {r t d a : ℕ} {P : List ℕ} → Down c rank r t d P → a ∈ P → (a ≡ r) ⊎ Precedes c rank a r
+  down_precede Down.top (later h) = elim h [ ]
   down_precede Down.top ◌∈◌.first = inl refl
   down_precede (Down.step before far bond down) ◌∈◌.first = inr before
   down_precede (Down.step before far bond down) (◌∈◌.later h) = down_precede down h
 
   -- An atom that is farther than the path's first atom is not on the path.
   pub down_near : {r t d a e : ℕ} {P : List ℕ} → Down c rank r t d P → Distance c a r e → d < e → a ∈ P → ⊥
+  down_near Down.top far less (later h) = elim h [ ]
   down_near Down.top far less ◌∈◌.first = omega (arith, distance_unique c far (distance_here c _))
   down_near (Down.step before far' bond down) far less ◌∈◌.first = omega (arith, distance_unique c far far')
   down_near (Down.step before far' bond down) far less (◌∈◌.later h) = down_near down far (omega arith) h
@@ -126,6 +128,7 @@ module _ (c : Compound) (rank : ℕ → ℕ) where
       }
 
   pub cut : {r t d a : ℕ} {P : List ℕ} → Down c rank r t d P → a ∈ P → Cut r t a d P
+  cut Down.top (later h) = elim h [ ]
   cut Down.top ◌∈◌.first = cut_first Down.top
   cut (Down.step before far bond down) ◌∈◌.first = cut_first (Down.step before far bond down)
   cut (Down.step before far bond down) (◌∈◌.later h) =

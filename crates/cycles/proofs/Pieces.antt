@@ -18,7 +18,7 @@ module _ (c : Compound) where
   Way a b = (steps : ℕ) × Walk c b a steps
 
   -- Two walks from one atom are a walk between their ends.
-  pub walk_between : {z a b s t : ℕ} → Walk c b a s → Walk c z a t → (steps : ℕ) × Walk c z b steps
+  pub walk_between : {z b a s t : ℕ} → Walk c b a s → Walk c z a t → (steps : ℕ) × Walk c z b steps
   walk_between Walk.here w = (_, w)
   walk_between (Walk.step (k, joins) rest) w = walk_between rest (Walk.step (k, joins_sym c joins) w)
 

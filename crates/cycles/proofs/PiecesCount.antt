@@ -8,7 +8,7 @@ use native.Mathlib.Decide.{ℕ_discrete, dec_lt}
 use native.Mathlib.Omega.{arith}
 use borrow.Author.Tests.{eq-eqb, ne_eqb}
 use lib.ListN.{length}
-use Rattle.spans.specs.Elements.{◌∈◌, Once}
+use Rattle.spans.specs.Elements.{◌∈◌, Once, later}
 use Rattle.cycles.specs.Compound.{Compound, m, Bonded, Walk, Sound, OnePiece}
 use Rattle.cycles.specs.Basis.{Basis}
 use Rattle.cycles.specs.Pieces.{SamePiece, Pieces, cyclomatic_of}
@@ -37,7 +37,7 @@ module _ (c : Compound) where
   bonded_same_piece j = (1, Walk.step j Walk.here)
 
   -- A walk does not leave the atoms with its root.
-  pub walk_root : {root : ℕ → ℕ} → Rooted c root → {a b steps : ℕ} → Walk c b a steps → root a ≡ root b
+  pub walk_root : {root : ℕ → ℕ} → Rooted c root → {b a steps : ℕ} → Walk c b a steps → root a ≡ root b
   walk_root r Walk.here = refl
   walk_root r (Walk.step {a = a} {next = next} j w) = r.bonded a next j ∙ walk_root r w
 
@@ -215,6 +215,7 @@ module _ (c : Compound) where
       }
     where
       alone : {a : ℕ} → a ∈ (0 ∷ []) → 0 ≡ a
+      alone (later h) = elim h [ ]
       alone ◌∈◌.first = refl
 
 -- ---- no bonds

@@ -80,7 +80,7 @@ module _ (c : Compound) where
   -- ---- deciding
   module _ (sound : Sound c) where
     -- A walk from an atom of the compound ends at one.
-    pub walk_atom : {a b steps : ℕ} → Walk c b a steps → a < c.n → b < c.n
+    pub walk_atom : {b a steps : ℕ} → Walk c b a steps → a < c.n → b < c.n
     walk_atom Walk.here h = h
     walk_atom (Walk.step (k, j) w) h = walk_atom w (sound.named k _ _ (joins_sym c j))
 

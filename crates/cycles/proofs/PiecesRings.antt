@@ -33,7 +33,7 @@ use Rattle.cycles.proofs.PiecesCount.{walk_root, root_same_piece}
 
 module _ (c : Compound) where
   -- A way along bonds of a set is a walk.
-  along_same_piece : {S a b : ℕ} → Along c S b a → SamePiece c a b
+  along_same_piece : {S b a : ℕ} → Along c S b a → SamePiece c a b
   along_same_piece Along.here = (0, Walk.here)
   along_same_piece (Along.step {k = k} e j w) = let (steps, v) = along_same_piece w in (suc steps, Walk.step (k, j) v)
 

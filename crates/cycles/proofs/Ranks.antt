@@ -22,7 +22,7 @@ use Rattle.cycles.specs.Compound.{Compound, Sound}
 use Rattle.cycles.specs.Ring.{len, Closed, Relevant}
 use Rattle.cycles.specs.Basis.{Minimum, Interchangeable}
 use Rattle.cycles.specs.Family.{Family, Prototype, Member, Kept}
-use Rattle.cycles.specs.Rows.{Row, ClassRow, Report, Right, At, how_many, class_row, class_rows, Marks, Together, Classes}
+use Rattle.cycles.specs.Rows.{Row, ClassRow, Report, Right, At, how_many, class_row, class_rows, Marks, Together, Classes, later}
 use Rattle.cycles.proofs.Families.{prototype_member, prototype_unique}
 use Rattle.cycles.proofs.Members.{relevant_in_family}
 use Rattle.cycles.proofs.Bases.{no_sum_relevant, relevant_dec, prototype_long, kept_prototype_relevant, marked_minimum}
@@ -76,6 +76,7 @@ module _ {X : Type 0} where
 
   -- What stands in a longer list stands in the list or at its end.
   pub at_snoc : (xs : List X) {i : ℕ} {x y : X} → At (xs ++ (y ∷ [])) i x → At xs i x ⊎ ((i ≡ length xs) × (x ≡ y))
+  at_snoc [] (later a) = elim a [ ]
   at_snoc [] At.here = inr (refl, refl)
   at_snoc (z ∷ xs) At.here = inl At.here
   at_snoc (z ∷ xs) (At.later a) = go (at_snoc xs a)
@@ -130,6 +131,7 @@ count_unmarked i row rows e = rw (e, and-false) (omega arith)
 class_rows_at : (rows : List Row) (base : ℕ) (fs : List Family) {j : ℕ} {t : ClassRow} (i : ℕ) → At (class_rows rows base fs) j t → i ≡ base + j
     → (g : Family) × At fs j g × (t ≡ class_row rows i g)
 unfolding class_rows
+class_rows_at rows base [] i a e = elim a [ ]
 class_rows_at rows base (f ∷ fs) i At.here e = (f, At.here, ap (λ (l : ℕ). class_row rows l f) (omega arith))
 class_rows_at rows base (f ∷ fs) i (At.later a) e =
     let (g, b, d) = class_rows_at rows (suc base) fs i a (omega arith) in (g, At.later b, d)
@@ -180,6 +182,7 @@ module _ (c : Compound) (rank : ℕ → ℕ) where
     pub member : Member c rank row.family C
 
   member_in_row : {f : Family} {C : ℕ} (rows : List Row) → f ∈ map (λ row. row.family) rows → Member c rank f C → InRow rows C
+  member_in_row [] h m = elim h [ ]
   member_in_row (row ∷ rows) ◌∈◌.first m = record { row = row; listed = ◌∈◌.first; member = m }
   member_in_row (row ∷ rows) (◌∈◌.later i) m =
       let t = member_in_row rows i m in record { row = t.row; listed = ◌∈◌.later t.listed; member = t.member }

@@ -102,6 +102,7 @@ module _ {X : Type 0} where
 
   placed_at : (k : ℕ) (xs : List X) {e : Placed X} → e ∈ placed k xs → (j : ℕ) × (e.place ≡ k + j) × At xs j e.item
   unfolding placed
+  placed_at k [] a = elim a [ ]
   placed_at k (x ∷ xs) ◌∈◌.first = (0, omega arith, At.here)
   placed_at k (x ∷ xs) (◌∈◌.later h) = let (j, d, a) = placed_at (suc k) xs h in (suc j, omega arith, At.later a)
 

@@ -2,6 +2,9 @@
 //!
 //! Each case prints one line: its name, and what was read or the first line that departs. What it must print follows from the scope
 //! document, and stands in `stdout`.
+
+#![tactic(auto)]
+
 ghost use Rattle.std.specs.Prelude.{◌<◌, ◌≤◌, ◌+◌, length};
 
 use cases::Case;

@@ -2,6 +2,9 @@
 //!
 //! Nothing is allocated. The loops compute exactly what the definitions of `specs/Lengths.antt` say, which are those of the
 //! plan in `model` over rows of bytes; what a run leaves is the report of the compound, as much of it as there is room for.
+
+#![tactic(auto)]
+
 ghost use Rattle.std.specs.Prelude.{◌≡◌, ◌+◌, ◌-◌, ◌/◌, ◌≤◌, length};
 ghost use Rattle.reading.specs.Reading.{compound};
 ghost use Rattle.engine.specs.Reports.{Stands, Reports};

@@ -1,5 +1,8 @@
 //! The engine's calls for C and Rust, with bonds lent as bytes or as records. A slice passes as a pointer and a length. No call
 //! asks anything of its caller.
+
+#![tactic(auto)]
+
 ghost use Rattle.std.specs.Prelude.{◌≡◌, take};
 ghost use Rattle.answers.specs.Answered.{Answered, AnsweredFirst};
 ghost use Rattle.rings.specs.Calls.{told};
@@ -11,7 +14,7 @@ use rings::Answer;
 
 /// What a call answers: a refusal's number and what it names, or 0 twice and the numbers. In a refusal the numbers are 0.
 #[repr(C)]
-#[derive(Drop)]
+#[derive(Clone, Copy)]
 pub struct Reply {
     /// 0 if the compound is answered in full, or the refusal's number, 1 to 9.
     pub refusal: u64,

@@ -2,12 +2,15 @@
 //!
 //! A text is `atoms=N`, `bonds=M` and M lines `bond=A-B`, each ended by one newline, with nothing after. Numbers are 0 to 255 in
 //! decimal with no leading zero. `read` says what a text says, or which of its lines departs first.
+
+#![tactic(auto)]
+
 ghost use Rattle.std.specs.Prelude.{◌≡◌, ◌<◌, ◌≤◌, length, []};
 ghost use Rattle.housetext.specs.Scan.{digit_at, scanned};
 ghost use Rattle.housetext.specs.Text.{starts, field_at, bond_at, passes, bonds_from, reads, Answers};
 
 /// What a text says.
-#[derive(Drop)]
+#[derive(Clone, Copy)]
 pub enum Text {
     /// The numbers of atoms and bonds; the bond bytes stand in the lent buffer.
     Read { atoms: usize, bonds: usize },
@@ -16,7 +19,7 @@ pub enum Text {
 }
 
 // A number at the start of a text.
-#[derive(Drop)]
+#[derive(Clone, Copy)]
 enum Found {
     // The number, and how many bytes were read.
     Value { value: u8, next: usize },
@@ -25,7 +28,7 @@ enum Found {
 }
 
 // A bond line at the start of a text.
-#[derive(Drop)]
+#[derive(Clone, Copy)]
 enum BondLine {
     // The two atoms, and how many bytes were read.
     Bond { a: u8, b: u8, next: usize },

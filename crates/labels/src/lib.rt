@@ -4,6 +4,9 @@
 //!
 //! Promises: joining leaves exactly the labels that the plan in `model` says. It asks that each label is below 128, so that labels make a set
 //! of two words, and that the list reaches to the last ring that may be joined.
+
+#![tactic(auto)]
+
 ghost use Rattle.std.specs.Prelude.{◌≡◌, true, ◌<◌, ◌≤◌, ◌^◌, length};
 ghost use Rattle.std.specs.Int.Bits.{bit_or};
 ghost use Rattle.std.specs.Int.Count.{count_trailing_zeros};

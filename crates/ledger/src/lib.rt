@@ -6,6 +6,9 @@
 //!
 //! Promises: the ledger becomes exactly what the definitions in `specs/Ledger.antt` say, and stays within its room of 82 marked rings.
 //! Rows that do not fit the lent buffers are counted and not written.
+
+#![tactic(auto)]
+
 ghost use Rattle.std.specs.Prelude.{◌≡◌, ◌<◌, ◌≢◌};
 ghost use Rattle.bondset.specs.Sets.{value};
 ghost use Rattle.rows.specs.Values.{Small};
@@ -17,7 +20,7 @@ use bondset::reduction::Reduced;
 use rows::Family;
 
 /// What has been counted so far.
-#[derive(Drop)]
+#[derive(Clone, Copy)]
 pub struct Tally {
     /// The marked rings.
     pub marks: usize,

@@ -57,7 +57,7 @@ fn least(bytes: usize) -> usize
 }
 
 // What a call answered, and how far it wrote.
-#[derive(Drop)]
+#[derive(Clone, Copy)]
 struct Outcome {
     answer: Answer,
     rows: u64,

@@ -7,6 +7,9 @@
 //! pairs of a path from p and a path from q, and no path from p meets one from q but in r. Each path takes one atom of each layer, so the members
 //! are at most the product of the numbers of atoms in each layer, on p's side and on q's side. These numbers sum to at most 63, so their
 //! product is at most 3^21, and 4,096 times that is less than 2^46.
+
+#![tactic(auto)]
+
 mod large;
 mod line;
 mod small;

@@ -1,6 +1,9 @@
 //! The listing program: house text in, the listing of the compound's ring families out, or a refusal.
 //!
 //! `list` does all of the work on slices; `main` only reads and writes.
+
+#![tactic(auto)]
+
 ghost use Rattle.std.specs.Prelude.{◌≤◌, ◌+◌, ◌*◌, length};
 ghost use Rattle.listingtext.specs.Listing.{Wrote};
 ghost use Rattle.rings.specs.Calls.{told};

@@ -2,13 +2,16 @@
 //!
 //! Each function stores its bytes in a lent buffer from a place on and answers the place after them. The bytes are those of
 //! `specs/Listing.antt`; the buffer's other bytes stay as lent. A caller lends as much room as the lines can take.
+
+#![tactic(auto)]
+
 ghost use Rattle.std.specs.Prelude.{◌≡◌, [], ◌∷◌, ◌++◌, ◌<◌, ◌≤◌, ◌+◌, ◌*◌, length, get_or};
 ghost use Rattle.housetext.specs.Decimal.{decimal};
 ghost use Rattle.housetext.specs.Text.{newline, field};
 ghost use Rattle.listingtext.specs.Listing.{Wrote, commas, cross, comma, refusal, head_lines, family_line, family_lines, class_line, class_lines, listing};
 
 /// The numbers of a listing's first lines.
-#[derive(Drop)]
+#[derive(Clone, Copy)]
 pub struct Head {
     /// Atoms of the compound.
     pub atoms: u64,

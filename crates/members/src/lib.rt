@@ -1,4 +1,7 @@
 //! The rings of a family, written out: paths to the top counted and listed by recursion on the distance.
+
+#![tactic(auto)]
+
 ghost use Rattle.std.specs.Prelude.{◌≡◌, [], ◌++◌, map, ℕ, ◌+◌, ◌*◌, ◌<◌, ◌≤◌, leb, length, get_or, drop};
 ghost use Rattle.std.specs.Int.Bits.{bit_xor};
 ghost use Rattle.bondset.specs.Bytes.{bytes_of, of_bytes};
@@ -11,7 +14,7 @@ ghost use Rattle.members.specs.Listed.{Tables, placed, places_at, over, member_s
 use bondset::BondSet;
 
 /// What a call that writes rings answers.
-#[derive(Drop)]
+#[derive(Clone, Copy)]
 pub enum Written {
     /// All were written: so many.
     All(u64),

@@ -41,7 +41,7 @@ module _ (s t : ℕ) (more : (k : ℕ) → bit s k ≡ 1 → bit t k ≡ 1) wher
 
 module _ (c : Compound) where
   -- A set that holds each neighbour of what it holds, holds the end of a walk that starts in it.
-  walk_stays : {a b steps : ℕ} (s : ℕ) → ((a b : ℕ) → bit s a ≡ 1 → Bonded c a b → bit s b ≡ 1) → Walk c b a steps → bit s a ≡ 1 → bit s b ≡ 1
+  walk_stays : {b a steps : ℕ} (s : ℕ) → ((a b : ℕ) → bit s a ≡ 1 → Bonded c a b → bit s b ≡ 1) → Walk c b a steps → bit s a ≡ 1 → bit s b ≡ 1
   walk_stays s closed Walk.here e = e
   walk_stays s closed (Walk.step {a} {next} bonded rest) e = walk_stays s closed rest (closed a next e bonded)
 

@@ -1,6 +1,6 @@
 -- The loops over one length are one pass over the candidates of that length in the order of the rows.
 use mathlib.Core.Path.{◌≡◌, refl, sym, ap, ap₂, ◌∙◌, subst}
-use mathlib.Core.List.{List, [], ◌∷◌, ◌++◌, map, map_append}
+use mathlib.Core.List.{List, [], ◌∷◌, ◌++◌, map, map-append}
 use Prim.Native.Nat.{ℕ, suc, ◌-◌, ◌*◌, ◌/◌, ◌<◌, ◌≤◌}
 use native.Mathlib.Omega.{arith}
 use lib.ListN.{length, set, length-set}
@@ -107,7 +107,7 @@ module _ (c : Compound) (rank pre : ℕ → ℕ) (ready : Ready c rank pre) wher
     unfolding tries_of each
     families_are [] us = refl
     families_are (r ∷ rs) us =
-        map_append (λ t. t.family) (map (try (wrote r us)) (candidates r)) (tries_of rs (wrote r us))
+        map-append (λ t. t.family) (map (try (wrote r us)) (candidates r)) (tries_of rs (wrote r us))
         ∙ ap₂ (λ (x y : List Family). x ++ y) (family_try (wrote r us) (candidates r)) (families_are rs (wrote r us))
 
     candidates_ascend : (s : ℕ) → Ascending (each candidates (members 64 s))

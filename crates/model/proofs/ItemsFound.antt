@@ -56,6 +56,7 @@ module _ (G : Net) (k r : ℕ) where
       go w.a (bit_of_mem 64 qs w.a w.mem) w.here
     where
       go : {g : Family} (q : ℕ) → bit qs q ≡ 1 → g ∈ (fam k r x p q ∷ []) → Pair x p qs g
+      go q e (later h) = elim h [ ]
       go q e first = pair e
 
   tips_are : (x ps : ℕ) {f : Family} → f ∈ tips G k r x ps → Tip x ps f
@@ -126,6 +127,8 @@ module _ (G : Net) (k r : ℕ) where
   -- ---- in which order they come
 
   less_q : {a b x p : ℕ} {f g : Family} → a < b → f ∈ (fam k r x p a ∷ []) → g ∈ (fam k r x p b ∷ []) → Less (key f) (key g)
+  less_q h first (later i) = elim i [ ]
+  less_q h (later i) _ = elim i [ ]
   less_q h first first = Less.later (Less.later (Less.later (Less.later (Less.here h))))
 
   less_p : {a b x s t : ℕ} {f g : Family} → a < b → Pair x a s f → Pair x b t g → Less (key f) (key g)

@@ -51,6 +51,7 @@ module _ {A C : Type 0} (f : A → List C) where
   -- What is in all of them together comes from one.
   pub from_each : {x : C} (over : List A) → x ∈ each f over → From over x
   unfolding each
+  from_each [] m = elim m [ ]
   from_each {x} (a ∷ rest) m =
       ⊎_elim (λ (l : x ∈ f a). record { a = a; mem = first; here = l })
       (λ (r : x ∈ each f rest). let g = from_each rest r in record { a = g.a; mem = later g.mem; here = g.here }) (in_append (f a) (each f rest) m)

@@ -13,7 +13,7 @@ use Rattle.bondset.specs.Sets.{bit}
 use Rattle.bondset.specs.Rows.{row_at}
 use Rattle.bondset.proofs.Laws.{lt_or_ge, bit_lt, bit_pow_same, bit_pow_other, ext}
 use Rattle.cycles.specs.Compound.{Compound, m, Joins, Bonded, Walk, Distance}
-use Rattle.cycles.specs.Family.{Down}
+use Rattle.cycles.specs.Family.{Precedes, Down}
 use Rattle.cycles.proofs.PathsDecide.{joins_sym, joins_below}
 use Rattle.model.specs.Net.{Net, net_of, nbrs, near, bond}
 use Rattle.model.specs.Layer.{Wave, spread, wave, layer, layers_into}
@@ -140,10 +140,15 @@ module _ (c : Compound) (rank pre : ℕ → ℕ) (ready : Held c rank pre) where
 
   -- The first step of a shortest walk.
   distance_next : {t r d : ℕ} → Distance c t r (suc d) → (next : ℕ) × Bonded c t next × Distance c next r d
-  distance_next {t} {r} {d} far = go far.walk
+  distance_next far = go far.walk far.least
     where
-      go : Walk c r t (suc d) → (next : ℕ) × Bonded c t next × Distance c next r d
-      go (Walk.step {next} bonded rest) = (next, bonded, record { walk = rest; least = λ steps w. omega (arith, far.least (suc steps) (Walk.step bonded w)) })
+      go : {r t d : ℕ} → Walk c r t (suc d) → ((steps : ℕ) → Walk c r t steps → suc d ≤ steps) → (next : ℕ) × Bonded c t next × Distance c next r d
+      go (Walk.step {next} bonded rest) least = (next, bonded, record { walk = rest; least = λ steps w. omega (arith, least (suc steps) (Walk.step bonded w)) })
+
+  -- The first step of a path down.
+  down_next : {r t d : ℕ} {P : List ℕ} → Down c rank r t (suc d) P
+      → Precedes c rank t r × Distance c t r (suc d) × ((next : ℕ) × Bonded c t next × DownFrom c rank r next d)
+  down_next (Down.step {next} before far bonded down) = (before, far, (next, bonded, (_, down)))
 
   module _ (r d : ℕ) (w : Wave) (inside : r < c.n) (waved : Waved r d w) where
     abbrev front' : ℕ
@@ -201,9 +206,10 @@ module _ (c : Compound) (rank pre : ℕ → ℕ) (ready : Held c rank pre) where
             (_, Down.step ((ready.precede r t inside named).0 outer.1) ((front_has t).0 inner.0) bonded ((waved.under_down next.0).0 next.1).1)
 
         from : {P : List ℕ} → Down c rank r t (suc d) P → bit under' t ≡ 1
-        from (Down.step {next} before far bonded down) =
+        from path =
+            let (before, far, (next, bonded, down)) = down_next path in
             let named = ready.sound.named bonded.0 t next bonded.1 in
-            let near-under = (near_has c ready.sound ready.atoms w.under t waved.under_small).1 (next, (waved.under_down next).1 (_, down), bonded_sym bonded) in
+            let near-under = (near_has c ready.sound ready.atoms w.under t waved.under_small).1 (next, (waved.under_down next).1 down, bonded_sym bonded) in
             (and_has (bit_and front' (near G w.under)) (pre r) t).1
             ((and_has front' (near G w.under) t).1 ((front_has t).1 far, near-under), (ready.precede r t inside named).1 before)
 

@@ -1,7 +1,7 @@
 -- The model's report is the right one: what has been reached before each length, and what is reported after the last.
 use mathlib.Core.Path.{◌≡◌, refl, sym, ap, ◌∙◌, subst}
 use mathlib.Core.Logic.{◌↔◌, inl, inr, ⊎_elim}
-use mathlib.Core.List.{List, [], ◌++◌, map, map_append, append-nil}
+use mathlib.Core.List.{List, [], ◌++◌, map, map-append, append-nil}
 use Prim.Native.Nat.{ℕ, zero, suc, ◌+◌, ◌-◌, ◌^◌, ◌<◌, ◌≤◌}
 use native.Mathlib.Decide.{dec_lt}
 use native.Mathlib.Numerals.{add-one}
@@ -52,7 +52,7 @@ use Rattle.model.proofs.MeetsEvents.{steps_part, steps_kept, steps_families_long
 families_append : (rows : List Row) (labels : List ℕ) (es : List Event)
     → map (λ row. row.family) (rows ++ rows_of labels es) ≡ map (λ row. row.family) rows ++ families_of es
 families_append rows labels es =
-    map_append (λ row. row.family) rows (rows_of labels es) ∙ ap (λ (fs : List Family). map (λ row. row.family) rows ++ fs) (rows_families labels es)
+    map-append (λ row. row.family) rows (rows_of labels es) ∙ ap (λ (fs : List Family). map (λ row. row.family) rows ++ fs) (rows_families labels es)
 
 module _ (c : Compound) (rank pre : ℕ → ℕ) (ready : Ready c rank pre) where
   -- The rows of all kept families shorter than k: S are their marked prototypes, and firsts the first families of their classes.

@@ -78,6 +78,7 @@ module _ (c : Compound) (rank pre : ℕ → ℕ) (ready : Ready c rank pre) wher
   -- Each kept family among the candidates is that of an event.
   pub steps_all : {S M N : List ℕ} {ts : List Try} {es : List Event} {f : Family} → Steps c rank pre ready S M ts N es → Kept c rank f
       → f ∈ map (λ t. t.family) ts → f ∈ families_of es
+  steps_all Steps.end kept h = elim h [ ]
   steps_all (Steps.passed n s) kept ◌∈◌.first = absurd (n kept)
   steps_all (Steps.passed n s) kept (◌∈◌.later i) = steps_all s kept i
   steps_all (Steps.marks p r n s) kept ◌∈◌.first = ◌∈◌.first

@@ -35,10 +35,13 @@ module _ (G : Net) where
   gather_keeps [] acc t e = e
   gather_keeps (a ∷ L) acc t e = gather_keeps L (gather a acc) t ((or_has acc (nbrs G a) t).1 (inl e))
 
-  pub gather_takes : {L : List ℕ} (acc t a : ℕ) → a ∈ L → bit (nbrs G a) t ≡ 1 → bit (through gather L acc) t ≡ 1
+  gather_at : (a : ℕ) {L : List ℕ} (acc t : ℕ) → a ∈ L → bit (nbrs G a) t ≡ 1 → bit (through gather L acc) t ≡ 1
   unfolding through
-  gather_takes acc t a (◌∈◌.first {xs}) e = gather_keeps xs (gather a acc) t ((or_has acc (nbrs G a) t).1 (inr e))
-  gather_takes acc t a (◌∈◌.later {y} h) e = gather_takes (gather y acc) t a h e
+  gather_at a acc t (◌∈◌.first {xs}) e = gather_keeps xs (gather a acc) t ((or_has acc (nbrs G a) t).1 (inr e))
+  gather_at a acc t (◌∈◌.later {y} h) e = gather_at a (gather y acc) t h e
+
+  pub gather_takes : {L : List ℕ} (acc t a : ℕ) → a ∈ L → bit (nbrs G a) t ≡ 1 → bit (through gather L acc) t ≡ 1
+  gather_takes acc t a h e = gather_at a acc t h e
 
   pub gather_small : (n : ℕ) → ((a : ℕ) → nbrs G a < 2 ^ n) → (L : List ℕ) (acc : ℕ) → acc < 2 ^ n → through gather L acc < 2 ^ n
   unfolding through

@@ -11,7 +11,7 @@ use lib.Count.{count_trailing_zeros}
 use lib.Dec.{eqb}
 use lib.ListN.{length, get_or, set, length-set, length-append}
 use lib.Seq.{get_or-set_same, get_or-set_other}
-use Rattle.spans.specs.Elements.{◌∈◌}
+use Rattle.spans.specs.Elements.{◌∈◌, later}
 use Rattle.spans.specs.Basis.{All}
 use Rattle.spans.proofs.Lists.{in_append}
 use Rattle.spans.proofs.Marking.{all_element}
@@ -208,6 +208,7 @@ module _ (c : Compound) (rank : ℕ → ℕ) {k s n : ℕ} {lab : ℕ → ℕ} (
       find l x y z (no q) = let (g, a, u) = b.at l x (omega (arith, q)) z in (g, at_append (f ∷ []) a, u)
 
       newest : (g : Family) → g ∈ (f ∷ []) → Met (suc m) g
+      newest g (later h) = elim h [ ]
       newest g ◌∈◌.first = inr (m, omega arith, t)
 
   known_shut : {m : ℕ} {before : List Family} → (lab m ≡ m → ⊥) → Known m before → Known (suc m) before

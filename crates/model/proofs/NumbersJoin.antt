@@ -32,7 +32,7 @@ module _ (labels : List ℕ) where
   gather_keeps [] acc l h = h
   gather_keeps (j ∷ js) acc l h = gather_keeps js (bit_or acc (2 ^ get_or labels j 0)) l ((or_has acc (2 ^ get_or labels j 0) l).1 (inl h))
 
-  gather_has : {js : List ℕ} {j : ℕ} (acc : ℕ) → j ∈ js → bit (through (λ j acc. bit_or acc (2 ^ get_or labels j 0)) js acc) (get_or labels j 0) ≡ 1
+  gather_has : {j : ℕ} {js : List ℕ} (acc : ℕ) → j ∈ js → bit (through (λ j acc. bit_or acc (2 ^ get_or labels j 0)) js acc) (get_or labels j 0) ≡ 1
   unfolding through
   gather_has {j} acc (first {xs = js}) =
       gather_keeps js (bit_or acc (2 ^ get_or labels j 0)) (get_or labels j 0)

@@ -43,6 +43,7 @@ labelled_push lab new a p (y ∷ M) x q e =
 -- A label of the list is that of some index.
 pub labelled_from : {l x : ℕ} (lab : ℕ → ℕ) (a : ℕ) (M : List ℕ) → Member l x (labelled lab a M) → (j : ℕ) × (a ≤ j) × (j < a + length M) × (lab j ≡ l)
 unfolding labelled
+labelled_from lab a [] h = elim h [ ]
 labelled_from lab a (y ∷ M) (Member.here e h) = (a, omega arith, omega arith, h)
 labelled_from lab a (y ∷ M) (Member.there m) = let (j, h, t, e) = labelled_from lab (suc a) M m in (j, omega arith, omega arith, e)
 

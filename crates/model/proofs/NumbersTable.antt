@@ -1,7 +1,7 @@
 -- The loop that numbers the classes of one length: the number of each index, and the table.
 use mathlib.Core.Path.{◌≡◌, refl, sym, ◌∙◌, ap, ap₂, subst}
 use mathlib.Core.Bool.{Bool, true, false, ◌&&◌, and-true}
-use mathlib.Core.List.{List, [], ◌∷◌, ◌++◌, map, map_append, append_assoc, append-nil}
+use mathlib.Core.List.{List, [], ◌∷◌, ◌++◌, map, map-append, append_assoc, append-nil}
 use mathlib.Core.Logic.{◌⊎◌, inl, inr}
 use Prim.Native.Nat.{ℕ, zero, suc, ◌+◌, ◌-◌, ◌<◌, ◌≤◌}
 use native.Mathlib.Nat.{zero-add}
@@ -121,7 +121,7 @@ module _ (k s n : ℕ) (lab : ℕ → ℕ) (rows : List Row) (holds : List ℕ) 
         opens_append lab s (m - s) 1 m (suc m - s) (omega arith) (omega arith) ∙ ap (λ (x : List ℕ). opens lab s (m - s) ++ x) (opens_open lab m 0 e) in
         let a : map (row_to k lab rows (suc m)) (opens lab s (m - s)) ≡ map (row_to k lab rows m) (opens lab s (m - s)) =
         map_same (all_map (λ l p. row_stay m l (λ q. omega (arith, p.1))) (opens_range lab s (m - s) m (omega arith))) in
-        rw (u.table_is, o, map_append, a, row_new m h t e, append_assoc)
+        rw (u.table_is, o, map-append, a, row_new m h t e, append_assoc)
 
     table_shut : (m l c : ℕ) (st : Numbering) → s ≤ m → m < s + n → lab m ≡ l → (l ≡ m → ⊥) → c ≡ length table + own s lab l → Upto m st
         → set st.table c (more (get_or holds m 0) (get_or st.table c blank)) ≡ table ++ map (row_to k lab rows (suc m)) (opens lab s (suc m - s))
@@ -144,7 +144,7 @@ module _ (k s n : ℕ) (lab : ℕ → ℕ) (rows : List Row) (holds : List ℕ) 
         let len : length (table ++ map (row_to k lab rows m) A) ≡ c =
         rw (length-append, length-map) (omega (arith, opens_length s lab s (l - s) l (omega arith) (omega arith), own_low s lab s (omega arith))) in
         let here : st.table ≡ (table ++ map (row_to k lab rows m) A) ++ (row_to k lab rows m l ∷ map (row_to k lab rows m) B) =
-        rw (u.table_is, o, map_append, append_assoc) in
+        rw (u.table_is, o, map-append, append_assoc) in
         rw (
           here,
           get_or_at (table ++ map (row_to k lab rows m) A) (row_to k lab rows m l) (map (row_to k lab rows m) B) blank c len,
@@ -152,7 +152,7 @@ module _ (k s n : ℕ) (lab : ℕ → ℕ) (rows : List Row) (holds : List ℕ) 
           o',
           append-nil,
           o,
-          map_append,
+          map-append,
           a,
           b,
           row_more m l h t e,

@@ -464,7 +464,7 @@ module _ (c : Compound) (rank pre : ℕ → ℕ) (ready : Ready c rank pre) wher
   unfolding through
   told {S = S} {M = M} {st = st} h a All.nil All.nil =
       record { N = M; events = []; steps = Steps.end; mid = a; did = did_none (length S) st }
-  told {k} {S} {M} {st} h a (All.cons {x = t} l ls) (All.cons g gs) = told_next a (given_step a t h l g) (λ N b. told h b ls gs)
+  told {k} {S} {M} {st} h a (All.cons {x = t} l ls) (All.cons g gs) = told_next a (given_step a t h l g) (λ N b. told {M = N} h b ls gs)
 
   begin : {k : ℕ} {S : List ℕ} {st : State} → Before k S st → Mid S [] st
   begin {k} {S} b =
@@ -490,8 +490,8 @@ module _ (c : Compound) (rank pre : ℕ → ℕ) (ready : Ready c rank pre) wher
         → R (through judge ts st) (through step ts y)
     unfolding through
     along y h a All.nil All.nil r = r
-    along {st = st} y h a (All.cons {x = t} l ls) (All.cons g gs) r =
-        let (N, b) = step_mid a (given_step a t h l g) in along (step t y) h b ls gs (turn t st y (given_fits a t h l g) r)
+    along {M = M} {st = st} y h a (All.cons {x = t} l ls) (All.cons g gs) r =
+        let (N, b) = step_mid a (given_step a t h l g) in along {M = N} (step t y) h b ls gs (turn t st y (given_fits a t h l g) r)
 
     -- What relates two states before and after each candidate that there is room for relates them after all candidates of a length.
     pub length_along : {k : ℕ} {S : List ℕ} {st : State} {tries : List Try} (y : Y) → Before k S st → Items c rank pre ready k tries → R st y
@@ -503,6 +503,7 @@ module _ (c : Compound) (rank pre : ℕ → ℕ) (ready : Ready c rank pre) wher
   -- Each kept family among the candidates has its event.
   pub steps_listed : {S M N : List ℕ} {ts : List Try} {es : List Event} {f : Family} → Steps S M ts N es → Kept c rank f → f ∈ map (λ t. t.family) ts
       → (e : Event) × (e ∈ es) × Prototype c rank f (ring_of e)
+  steps_listed end kept h = elim h [ ]
   steps_listed (Steps.passed n s) kept ◌∈◌.first = absurd (n kept)
   steps_listed (Steps.passed n s) kept (◌∈◌.later i) = steps_listed s kept i
   steps_listed (Steps.marks {M = M} {t = t} p r n s) kept ◌∈◌.first = (_, ◌∈◌.first, p)

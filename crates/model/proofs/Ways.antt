@@ -31,6 +31,7 @@ abbrev ahead : ℕ → List (List ℕ) → List (List ℕ)
 ahead t Ps = map (λ P. t ∷ P) Ps
 
 ahead_are : (t : ℕ) (Ps : List (List ℕ)) {Q : List ℕ} → Q ∈ ahead t Ps → Longer t Ps Q
+ahead_are t [] h = elim h [ ]
 ahead_are t (P ∷ Ps) first = longer first
 ahead_are t (P ∷ Ps) (later m) = more (ahead_are t Ps m)
   where
@@ -91,6 +92,7 @@ module _ (G : Net) (us : List ℕ) where
 
   downs_start : (e t : ℕ) {P : List ℕ} → P ∈ downs e t → Starts t P
   unfolding downs
+  downs_start zero t (later h) = elim h [ ]
   downs_start zero t first = starts
   downs_start (suc e) t m =
       let w = from_each (λ s. ahead t (downs e s)) (members 64 (nearer e t)) m in
@@ -117,6 +119,7 @@ module _ (c : Compound) (rank pre : ℕ → ℕ) (ready : Ready c rank pre) wher
 
   module _ (us : List ℕ) (h r : ℕ) (small : r < c.n) (layered : Layered c pre r h us) where
     down_here : {t : ℕ} {P Q : List ℕ} → Down c rank r t 0 Q → P ∈ ((t ∷ []) ∷ []) → Down c rank r t 0 P
+    down_here Down.top (later h) = elim h [ ]
     down_here Down.top first = Down.top
 
     down_next : {t e s : ℕ} {P Q : List ℕ} {Ps : List (List ℕ)} → Down c rank r t (suc e) Q → Bonded c t s → ((R : List ℕ) → R ∈ Ps → Down c rank r s e R)

@@ -5,6 +5,9 @@
 //!
 //! Promises: the bonds of two chosen paths walked in step are exactly what the engine's plan in `model` says, for any such words. Paths that
 //! meet below the top give the empty set.
+
+#![tactic(auto)]
+
 ghost use Rattle.std.specs.Prelude.{◌≡◌, [], ℕ, ◌<◌, ◌≤◌, length, get_or};
 ghost use Rattle.std.specs.Int.Bits.{bit_and, bit_xor};
 ghost use Rattle.bondset.specs.Sets.{value};

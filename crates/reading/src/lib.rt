@@ -2,12 +2,15 @@
 //!
 //! Promises: the first bond that refusals 3 to 5 speak of is named, or there is none, and the lent words hold the neighbours and the bonds of
 //! each atom as the bonds before it give them.
+
+#![tactic(auto)]
+
 ghost use Rattle.std.specs.Prelude.{◌≡◌, ◌+◌, ◌*◌, ◌/◌, ◌<◌, ◌≤◌, length, replicate};
 ghost use Rattle.model.specs.Net.{near1, touch1};
 ghost use Rattle.reading.specs.Reading.{compound, fault_of, fault_by, Reading};
 
 /// What came of reading the bonds: all are fine, or the first that is not, and why.
-#[derive(Drop)]
+#[derive(Clone, Copy)]
 pub enum Verdict {
     /// Every bond joins two atoms of the compound that no other bond joins.
     Fine,

@@ -2,6 +2,9 @@
 //! on the bytes of the records, one record after the other.
 //!
 //! The records are copied into an array of bytes, and the array goes to the byte form. No call asks anything of its caller.
+
+#![tactic(auto)]
+
 ghost use Rattle.std.specs.Prelude.{◌≡◌, ℕ, ◌/◌, ◌≤◌, length, take};
 ghost use Rattle.answers.specs.Answered.{refused, Answered, AnsweredFirst};
 ghost use Rattle.rings.specs.Calls.{told};
@@ -11,7 +14,7 @@ use rings::{Answer, Sized};
 
 /// A bond as a record of the numbers of its two atoms; either may come first.
 #[repr(C)]
-#[derive(Drop)]
+#[derive(Clone, Copy)]
 pub struct Bond {
     /// The number of one atom.
     pub a: u8,

@@ -9,7 +9,7 @@ use candidates::Going;
 use reading::Verdict;
 
 /// Whether a call goes on.
-#[derive(Drop)]
+#[derive(Clone, Copy)]
 pub enum Ground {
     /// It does.
     Fine,

@@ -5,6 +5,9 @@
 //! lent buffers for each input. What decides a refusal is handed the lengths of the lent buffers at the most, and not the buffers.
 //!
 //! Which refusal has which number stands in `refusal_of`, for all who print an answer or pass it on.
+
+#![tactic(auto)]
+
 ghost use Rattle.std.specs.Prelude.{◌≡◌, ℕ, ◌<◌, length, get_or};
 ghost use Rattle.answers.specs.Answered.{refused, Answered, AnsweredFirst};
 ghost use Rattle.rings.specs.Calls.{told, refusal_in};
@@ -12,7 +15,7 @@ ghost use Rattle.rings.specs.Calls.{told, refusal_in};
 mod call;
 
 /// What a call answers: five numbers, or a refusal with what it names.
-#[derive(Drop)]
+#[derive(Clone, Copy)]
 pub enum Answer {
     /// The compound is answered in full, and its rows are written.
     Full {
@@ -48,7 +51,7 @@ pub enum Answer {
 }
 
 /// A refusal's number and what it names.
-#[derive(Drop)]
+#[derive(Clone, Copy)]
 pub struct Refusal {
     /// 1 to 9, or 0 for a full answer.
     pub number: u64,
@@ -57,7 +60,7 @@ pub struct Refusal {
 }
 
 /// An answer, and the size of one family.
-#[derive(Drop)]
+#[derive(Clone, Copy)]
 pub struct Sized {
     /// The answer.
     pub answer: Answer,

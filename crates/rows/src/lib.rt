@@ -5,6 +5,9 @@
 //!
 //! Promises: the bytes are exactly those of the definitions in `specs/Rows.antt`. A family's numbers must fit bytes, and numbering asks for
 //! a label and a count of families of each ring that it numbers, of which there are 82 at the most.
+
+#![tactic(auto)]
+
 ghost use Rattle.std.specs.Prelude.{◌≡◌, ◌+◌, ◌-◌, ◌*◌, ◌/◌, ◌<◌, ◌≤◌, min, length};
 ghost use Rattle.model.specs.Fold.{through, count};
 ghost use Rattle.labels.specs.Labelled.{Labelled};
@@ -12,7 +15,7 @@ ghost use Rattle.rows.specs.Rows.{put_family, more_class, numbered_in, patched};
 ghost use Rattle.rows.specs.Values.{Small, family_of, essential_mark, put_class, numbers_of, Numbered};
 
 /// A family: its length, its top atom and its atoms p, q, x.
-#[derive(Drop)]
+#[derive(Clone, Copy)]
 pub struct Family {
     /// The length.
     pub k: usize,

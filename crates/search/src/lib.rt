@@ -2,6 +2,9 @@
 //!
 //! A search tells whether all atoms hang together, and which atoms stand under a top atom at each distance. Each function promises what the
 //! model of the same name computes, and nothing of how: the inside of a search may change and no caller notices.
+
+#![tactic(auto)]
+
 ghost use Rattle.std.specs.Prelude.{◌≡◌, ◌-◌, ◌^◌, ◌<◌, ◌≤◌, eqb, length};
 ghost use Rattle.model.specs.Layer.{wave, layers_into};
 ghost use Rattle.atoms.specs.Nets.{neighbours};
@@ -39,7 +42,7 @@ pub fn in_one_piece(n: usize, adj: &[u64]) -> bool
 }
 
 /// A search under way, at some distance from its start: its sets, and where the atoms at that distance stand in the queue.
-#[derive(Drop)]
+#[derive(Clone, Copy)]
 pub struct Search {
     /// All atoms up to that distance.
     pub seen: u64,

@@ -1,6 +1,6 @@
 -- Two spaces that are alike: additive maps there and back that keep W and lengths carry bases, minimum bases and what is no sum of shorter ones.
 use mathlib.Core.Path.{◌≡◌, refl, sym, ◌∙◌, ap, ap₂, subst, subst₂}
-use mathlib.Core.List.{List, [], ◌∷◌, ◌++◌, map, map_append}
+use mathlib.Core.List.{List, [], ◌∷◌, ◌++◌, map, map-append}
 use Prim.Native.Nat.{ℕ, ◌+◌, ◌<◌}
 use native.Mathlib.Omega.{arith}
 use Rattle.spans.specs.Group.{Space}
@@ -156,4 +156,4 @@ module _ {X Y : Type 0} {G : Space X} {H : Space Y} {ℓ : X → ℕ} {ℓ' : Y 
   -- What stands in a minimum basis goes to what stands there.
   pub middle_alike : (before : List X) (x : X) (after : List X) → Minimum G ℓ W (before ++ (x ∷ after))
       → Minimum H ℓ' W' (map f.to before ++ (f.to x ∷ map f.to after))
-  middle_alike before x after m = subst (Minimum H ℓ' W') (map_append f.to before (x ∷ after)) (minimum_alike m)
+  middle_alike before x after m = subst (Minimum H ℓ' W') (map-append f.to before (x ∷ after)) (minimum_alike m)

@@ -111,22 +111,25 @@ module _ {X : Type 0} where
   relabel_part f (Part.keep p) = Part.keep (relabel_part f p)
   relabel_part f (Part.skip p) = Part.skip (relabel_part f p)
 
-  relabel_all : {l : ℕ} {M : List (Labelled X)} (f : ℕ → ℕ) → All (λ m. f m.label ≡ l) M → All (λ m. m.label ≡ l) (relabel f M)
+  relabel_all : {l : ℕ} (f : ℕ → ℕ) {M : List (Labelled X)} → All (λ m. f m.label ≡ l) M → All (λ m. m.label ≡ l) (relabel f M)
   unfolding relabel
   relabel_all f All.nil = All.nil
   relabel_all f (All.cons e r) = All.cons e (relabel_all f r)
 
   pub member_all : {Q : X → Type 0} {l : ℕ} {x : X} (M : List (Labelled X)) → Member l x M → All Q (its M) → Q x
   unfolding its
+  member_all [] p a = elim p [ ]
   member_all {Q} (m ∷ M) (Member.here e h) (All.cons a r) = subst Q e a
   member_all (m ∷ M) (Member.there p) (All.cons a r) = member_all M p r
 
   pub member_part : {l : ℕ} {x : X} {M U : List (Labelled X)} → Part M U → Member l x U → Member l x M
+  member_part Part.nil q = elim q [ ]
   member_part (Part.keep p) (Member.here e h) = Member.here e h
   member_part (Part.keep p) (Member.there q) = Member.there (member_part p q)
   member_part (Part.skip p) q = Member.there (member_part p q)
 
   pub member_perm : {l : ℕ} {x : X} {M N : List (Labelled X)} → Perm M N → Member l x M → Member l x N
+  member_perm Perm.nil q = elim q [ ]
   member_perm (Perm.cons p) (Member.here e h) = Member.here e h
   member_perm (Perm.cons p) (Member.there q) = Member.there (member_perm p q)
   member_perm Perm.swap (Member.here e h) = Member.there (Member.here e h)
@@ -140,6 +143,7 @@ module _ {X : Type 0} where
 
   pub member_relabel : {f : ℕ → ℕ} {l : ℕ} {x : X} (M : List (Labelled X)) → Member l x (relabel f M) → (j : ℕ) × Member j x M × (f j ≡ l)
   unfolding relabel
+  member_relabel [] p = elim p [ ]
   member_relabel (m ∷ M) (Member.here e h) = (m.label, Member.here e refl, h)
   member_relabel (m ∷ M) (Member.there p) = let (j, q, h) = member_relabel M p in (j, Member.there q, h)
 

@@ -24,6 +24,7 @@ use Rattle.spans.proofs.Short.{sum_append, not_span_relevant}
 module _ {X : Type 0} where
   -- What holds of all elements holds of each.
   pub all_element : {P : X → Type 0} {x : X} {xs : List X} → All P xs → x ∈ xs → P x
+  all_element All.nil i = elim i [ ]
   all_element (All.cons a r) ◌∈◌.first = a
   all_element (All.cons a r) (◌∈◌.later i) = all_element r i
 

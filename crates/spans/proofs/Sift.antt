@@ -78,6 +78,7 @@ sift_perm (Sift.out k s) (Sift.out n t) = absurd (n k)
 
 -- A member that has not K stands among the others.
 pub sift_avoids : {X : Type 0} {K : X → Type 0} {c : X} {xs ys zs : List X} → ¬ K c → Sift K xs ys → Pick xs c zs → Part zs ys
+sift_avoids n Sift.nil p = elim p [ ]
 sift_avoids n (Sift.inn k s) Pick.here = absurd (n k)
 sift_avoids {K} n (Sift.out m s) Pick.here = sift_part K s
 sift_avoids n (Sift.inn k s) (Pick.there q) = Part.keep (sift_avoids n s q)

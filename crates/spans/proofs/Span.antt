@@ -60,7 +60,7 @@ module _ {X : Type 0} (G : Space X) where
   span_dec (x ∷ xs) v = dec_more (span_dec xs v) (span_dec xs (v ⊕ x))
 
   -- What lies in the span of a list that lies in the span of ys lies in the span of ys.
-  pub through : {xs ys : List X} {v : X} → All (Span ys) xs → Span xs v → Span ys v
+  pub through : {ys xs : List X} {v : X} → All (Span ys) xs → Span xs v → Span ys v
   through {ys} All.nil (none p) = at (sym p) (zero ys)
   through (All.cons a r) (skip s) = through r s
   through (All.cons a r) (take s) = at (undo G _ _) (add (through r s) a)
