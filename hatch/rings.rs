@@ -8,8 +8,8 @@
 //! Nothing needs to be checked before a call. Every input gets the full answer or one [`Refusal`], and a refused call leaves
 //! both buffers as they were.
 //!
-//! The module allocates nothing and uses `core` alone (Rust 1.82 or later). `rt staticlib hatch` makes the archive; a program that has this file as a module is linked with
-//! `-L native=target/staticlib -l static=hatch`.
+//! The module allocates nothing and uses `core` alone (Rust 1.82 or later). `rt lib` in crates/hatch makes the archive; a program that has this file as a module is linked with
+//! `-L native=crates/hatch/out -l static=hatch`.
 //!
 //! # Examples
 //!
