@@ -65,8 +65,8 @@ fn touch_at(touch: &mut [u64], a: usize, k: usize)
 fn add(adj: &mut [u64], touch: &mut [u64], a: usize, b: usize, k: usize)
     requires a_bound { a < 64 }
     requires b_bound { b < 64 }
-    requires in_bounds { 64 ≤ length adj.old }
-    requires in_bounds_2 { 128 ≤ length touch.old }
+    requires adj_in_bounds { 64 ≤ length adj.old }
+    requires touch_in_bounds { 128 ≤ length touch.old }
     ensures adj_after { adj.new ≡ near1 b a (near1 a b adj.old) }
     ensures touch_after { touch.new ≡ touch1 b k (touch1 a k touch.old) }
 {
