@@ -118,7 +118,7 @@ goes_none G pre q s e r d layering =
       front = λ pos. absurd (omega arith);
     }
 
--- One step: `reach` are the neighbours of the atoms at the last distance, and `beneath` those of the atoms under the start.
+-- One step: `reach` are the neighbours of the atoms at the last distance, and `nearby` those of the atoms under the start.
 module _ (G : Net) (small : (a : ℕ) → nbrs G a < 2 ^ 64) (pre : ℕ) (q : List ℕ) (s : Search) (pos : 0 < s.under)
     (ready : Ready q s) (room : s.end ≤ length q) (reach : ℕ) (reaches : reach ≡ beside G q s.from s.end) where
   abbrev found : ℕ
@@ -140,11 +140,11 @@ module _ (G : Net) (small : (a : ℕ) → nbrs G a < 2 ^ 64) (pre : ℕ) (q : Li
     unfolding wave spread
     seen_next = or_without s.seen reach ∙ ap₂ (λ (x y : ℕ). x + y) (layering.seen pos) found_new
 
-  pub goes_further : (q' : List ℕ) (end' : ℕ) → Appended q s.end found q' end' → (beneath : ℕ) → beneath ≡ near G s.under
-      → Goes G pre q s q' (record { seen = seen'; under = without (bit_and beneath pre) seen'; from = s.end; end = end' })
-  goes_further q' end' appended beneath beneaths r d layering = record {
+  pub goes_further : (q' : List ℕ) (end' : ℕ) → Appended q s.end found q' end' → (nearby : ℕ) → nearby ≡ near G s.under
+      → Goes G pre q s q' (record { seen = seen'; under = without (bit_and nearby pre) seen'; from = s.end; end = end' })
+  goes_further q' end' appended nearby nearby_is r d layering = record {
     under =
-        ap₂ (λ (x y : ℕ). without (bit_and x pre) y) (beneaths ∙ ap (near G) layering.under) (seen_next r d layering)
+        ap₂ (λ (x y : ℕ). without (bit_and x pre) y) (nearby_is ∙ ap (near G) layering.under) (seen_next r d layering)
         ∙ layer_next G small pre r (suc d);
     seen = λ more. seen_next r d layering;
     ready = λ more. record {

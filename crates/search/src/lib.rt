@@ -56,8 +56,8 @@ pub struct Search {
 
 /// One distance further, through the queue; beyond a distance with no atom under the start there is none, and nothing is done.
 fn next(adj: &[u64], pre: u64, queue: &mut [u8], s: Search) -> Search
-    requires in_bounds { 64 ≤ length adj.now }
-    requires in_bounds_2 { 64 ≤ length queue.old }
+    requires adj_in_bounds { 64 ≤ length adj.now }
+    requires queue_in_bounds { 64 ≤ length queue.old }
     requires ready { 0 < s.under → Ready queue.old s }
     ensures { Goes (neighbours adj.now) pre queue.old s queue.new result }
 {
