@@ -80,7 +80,7 @@ pub fn fill(adj: &[u64], layers: &[u64], counts: &mut [u64], e: usize)
     requires sized { Sized adj.now layers.now counts.old (e + 1) }
     requires disjoint { Disjoint layers.now (e + 1) }
     requires table { Table adj.now layers.now e counts.old }
-    ensures table_2 { Table adj.now layers.now (e + 1) counts.new }
+    ensures next_table { Table adj.now layers.now (e + 1) counts.new }
     ensures others { Others (get_or layers.now (e + 1) 0) counts.old counts.new }
 {
     let mut rest = layers[e + 1];

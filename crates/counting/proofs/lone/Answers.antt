@@ -1,0 +1,50 @@
+use mathlib.Core.Path.{◌≡◌, refl, ap, ◌∙◌}
+use mathlib.Core.List.{[]}
+use Prim.Native.Nat.{ℕ, suc, ◌-◌, ◌^◌, ◌<◌}
+use native.Mathlib.Omega.{arith}
+use lib.Bits.{bit_and, and_le_l}
+use lib.Count.{trailing_le}
+use lib.ListN.{get_or}
+use Rattle.bondset.proofs.Laws.{pos_of_ne}
+use Rattle.model.specs.Layer.{ways}
+use Rattle.paths.specs.Nets.{net}
+use Rattle.counting.proofs.Tables.{low_lt, ways_lone}
+use Rattle.counting.proofs.lone.Goals as goal
+
+pub loop-i-init : goal.loop-i-init
+loop-i-init c = (omega arith, omega arith, refl)
+
+pub returns-then-down-eq0 : goal.returns-then-down-eq0
+returns-then-down-eq0 c e = let z : ◌≡◌ {A = ℕ} 0 1 = cc in absurd (omega arith)
+
+pub returns-then-down-ne0 : goal.returns-then-down-ne0
+returns-then-down-ne0 c e = let z : ◌≡◌ {A = ℕ} 0 1 = cc in absurd (omega arith)
+
+pub overflow_cast-a : goal.overflow_cast-a
+overflow_cast-a c =
+    let l = c.loop-i in
+    let a = c.args in
+    omega (arith, trailing_le 64 (bit_and (get_or a.adj.now l.a 0) (get_or a.layers.now (l.i - 1) 0)))
+
+pub loop-i-preserved : goal.loop-i-preserved
+loop-i-preserved c =
+    let l = c.loop-i in
+    let a = c.args in
+    let down = bit_and (get_or a.adj.now l.a 0) (get_or a.layers.now (l.i - 1) 0) in
+    let some = pos_of_ne down c.if-down-eq0.false in
+    let word : down < 2 ^ 64 =
+    omega (arith, and_le_l (get_or a.adj.now l.a 0) (get_or a.layers.now (l.i - 1) 0), (c.type_inv.adj l.a).fits) in
+    let back : l.i ≡ suc (l.i - 1) = omega (arith, c.loop-i-test.true) in (
+      omega (arith, l.invariant.0),
+      low_lt down some word,
+      l.invariant.2 ∙ ap (λ (k : ℕ). ways (net a.adj.now []) a.layers.now k l.a) back
+          ∙ ways_lone a.adj.now a.layers.now (l.i - 1) l.a some word c.if-down-ne0.false,
+    )
+
+pub returns : goal.returns
+unfolding ways
+returns c e =
+    let l = c.loop-i in
+    let a = c.args in
+    let top : l.i ≡ 0 = omega (arith, c.loop-i-test.false) in
+    l.invariant.2 ∙ ap (λ (k : ℕ). ways (net a.adj.now []) a.layers.now k l.a) top
