@@ -77,6 +77,7 @@ pub family_pieces : (row : List ℕ) (size : ℕ) → 7 ≤ length row
     → family_word ++ (commas (take 4 row) ++ ((cross (get_or row 4 0) ++ comma ∷ []) ++ (commas (take 2 (drop 5 row)) ++ (decimal size ++ newline ∷ []))))
     ≡ family_line row size
 unfolding commas joined family_line
+family_pieces [] size h = absurd (omega arith)
 family_pieces (a ∷ []) size h = absurd (omega arith)
 family_pieces (a ∷ b ∷ []) size h = absurd (omega arith)
 family_pieces (a ∷ b ∷ c ∷ []) size h = absurd (omega arith)
@@ -90,6 +91,7 @@ pub class_pieces : (class : ℕ) (row : List ℕ) (families mark : ℕ) → 5 �
     → class_word ++ ((decimal class ++ comma ∷ []) ++ (commas (take 2 row) ++ ((decimal families ++ comma ∷ []) ++ (decimal mark ++ newline ∷ []))))
     ≡ class_line class row
 unfolding commas joined class_line
+class_pieces class [] families mark h p q = absurd (omega arith)
 class_pieces class (a ∷ []) families mark h p q = absurd (omega arith)
 class_pieces class (a ∷ b ∷ []) families mark h p q = absurd (omega arith)
 class_pieces class (a ∷ b ∷ c ∷ []) families mark h p q = absurd (omega arith)
