@@ -6,6 +6,8 @@
 
 ghost use Rattle.std.specs.Prelude.{◌≤◌, length};
 
+use std::io;
+
 /// The places of a table's first case.
 #[derive(Clone, Copy)]
 pub struct Case {
@@ -54,7 +56,7 @@ pub fn first(table: &[u8]) -> Case
 }
 
 /// Prints a word and a number.
-pub fn say(word: &[u8], number: u64) {
-    io::write_all(1, word);
-    io::print_decimal(1, number);
+pub fn say(rt: &impl Print, word: &[u8], number: u64) -> io::Result<()> {
+    rt.write_all(word)?;
+    rt.print(number)
 }
