@@ -1,16 +1,15 @@
 -- What the numbers of a right report count: kept families, classes of relevant rings, relevant rings.
 use mathlib.Core.Path.{◌≡◌, sym, ◌∙◌}
-use mathlib.Core.List.{List, [], ◌∷◌, map}
+use mathlib.Core.List.{map}
 use Prim.Native.Nat.{ℕ, ◌<◌}
 use native.Mathlib.Omega.{arith}
 use lib.ListN.{length-map}
-use Rattle.spans.specs.Elements.{◌∈◌, Once}
+use Rattle.spans.specs.Elements.{◌∈◌}
 use Rattle.cycles.specs.Compound.{Compound, Sound}
 use Rattle.cycles.specs.Ring.{Relevant}
-use Rattle.cycles.specs.Family.{Family, Member, Kept}
-use Rattle.cycles.specs.Rows.{Row, Ascending, Report, Right}
+use Rattle.cycles.specs.Family.{Member, Kept}
+use Rattle.cycles.specs.Rows.{Row, Report, Right}
 use Rattle.cycles.proofs.Families.{prototype_member}
-use Rattle.cycles.proofs.Bases.{ascending_rest}
 use Rattle.cycles.proofs.Swaps.{interchangeable_same_length}
 use Rattle.cycles.proofs.Ranks.{in_map, at_exists, at_below, relevant_in_row, same_class_iff, class_rows_length, class_row_of, class_row_exists}
 use Rattle.cycles.proofs.Unique.{ascending_once}

@@ -15,7 +15,7 @@ use lib.ListN.{get_or}
 use Rattle.spans.specs.Elements.{◌∈◌, first, later}
 use Rattle.bondset.specs.Sets.{bit, has, members, Climbs, next}
 use Rattle.bondset.specs.Rows.{row_at}
-use Rattle.bondset.specs.Reduction.{used, Reduces}
+use Rattle.bondset.specs.Reduction.{Reduces}
 use Rattle.bondset.specs.Index.{Fresh, Indexed, Reaches, add_within, add_held, add_placed, late_rest, late_used, AddsPlaced, AddsLate}
 use Rattle.bondset.proofs.Laws.{lt_or_ge, bit_lt, bit_xor_lem, bit_and_lem, bit_beyond, differ_zero}
 use Rattle.bondset.proofs.Members.{mem_of_bit, bit_of_mem, members_climb}

@@ -3,7 +3,6 @@ use mathlib.Core.Path.{◌≡◌, sym, ap, ◌∙◌, subst₂}
 use mathlib.Core.List.{List, map}
 use Prim.Native.Nat.{ℕ, ◌<◌}
 use Rattle.spans.specs.Basis.{Holding}
-use Rattle.spans.specs.Graded.{total}
 use Rattle.spans.proofs.Alike.{Alike, alike_sym, holding_map, total_map, basis_alike, minimum_alike, middle_alike}
 use Rattle.spans.proofs.Alike as Spans
 use Rattle.bondset.proofs.Group.{bond_sets}
