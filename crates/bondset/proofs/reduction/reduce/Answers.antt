@@ -43,7 +43,7 @@ loop-i-preserved c =
     and_mask (get_or l.words (k / 64) 0 / 2 ^ (k % 64)) 1 ∙ ap (λ (ws : List ℕ). bit (get_or ws (k / 64) 0) (k % 64)) l.invariant.4
     ∙ bit_spread l.rest.lo l.rest.hi k l.invariant.2 l.invariant.3 (omega (arith, c.type_inv.pivots l.i)) in
     elim c.if-words-k-eq1.branch [
-      then-words-k-eq1 w ↦ (
+      | then-words-k-eq1 w ↦ (
         omega arith,
         omega arith,
         rw w.rest-is (omega arith),
