@@ -1,7 +1,7 @@
 -- The ledger keeps the model's state: its numbers and lists, its rows and class rows as bytes over the buffers, and counts modulo 2^64.
 use mathlib.Core.Path.{◌≡◌, refl, sym, ap, ◌∙◌, subst}
 use mathlib.Core.Bool.{Bool, true, false, cond}
-use mathlib.Core.List.{List, [], ◌∷◌, ◌++◌, map, map_append, append_assoc, append-nil}
+use mathlib.Core.List.{List, [], ◌∷◌, ◌++◌, map, map-append, append_assoc, append-nil}
 use mathlib.Core.Logic.{⊎_elim}
 use Prim.Native.Nat.{ℕ, zero, suc, ◌+◌, ◌-◌, ◌*◌, ◌/◌, ◌%◌, ◌^◌, ◌<◌, ◌≤◌, min}
 use native.Mathlib.Nat.{mod-eq_of_lt, mod-add-mod, add-mod-mod, add-zero}
@@ -326,7 +326,7 @@ module _ (out₀ labels : List ℕ) where
           ∙ patch_rows done (take n here) (drop n here) (length done) refl (omega arith)
           ∙ rest room
           ∙ ap (λ (rows : List Row). written_rows out₀ (done ++ rows))
-          (sym (map_append (classed labels) (take n here) (drop n here)) ∙ ap (map (classed labels)) (take-append-drop n here))
+          (sym (map-append (classed labels) (take n here) (drop n here)) ∙ ap (map (classed labels)) (take-append-drop n here))
 
 -- ---- the end of a length
 

@@ -67,6 +67,7 @@ less_five (Less.later (Less.here h)) br bx bp bq = omega arith
 less_five (Less.later (Less.later (Less.here h))) br bx bp bq = omega arith
 less_five (Less.later (Less.later (Less.later (Less.here h)))) br bx bp bq = omega arith
 less_five (Less.later (Less.later (Less.later (Less.later (Less.here h))))) br bx bp bq = omega arith
+less_five (Less.later (Less.later (Less.later (Less.later (Less.later l))))) br bx bp bq = elim l [ ]
 
 -- A family's numbers as one, in the order of the rows.
 code : Family → ℕ

@@ -1,7 +1,7 @@
 -- The sizes of the rows asked for: those from a row on, over a list as far as there is room.
 use mathlib.Core.Path.{◌≡◌, refl, sym, ap, ◌∙◌}
 use mathlib.Core.Bool.{Bool, true, false, cond, ◌&&◌}
-use mathlib.Core.List.{List, [], ◌∷◌, ◌++◌, map, map_append}
+use mathlib.Core.List.{List, [], ◌∷◌, ◌++◌, map, map-append}
 use mathlib.Core.Logic.{⊎_elim}
 use Prim.Native.Nat.{ℕ, suc, ◌-◌, ◌<◌, ◌≤◌}
 use native.Mathlib.Numerals.{add-one}
@@ -92,5 +92,5 @@ pub size_next : (from : ℕ) (lent : List ℕ) (rows : List Row) (row : Row)
     → put_size from (length rows) row.size (written_sizes from lent rows) ≡ written_sizes from lent (rows ++ (row ∷ []))
 size_next from lent rows row =
     let xs : List ℕ = map (λ row. row.size) rows in
-    rw (map_append (λ (row : Row). row.size) rows (row ∷ []), ← length-map rows (λ (row : Row). row.size))
+    rw (map-append (λ (row : Row). row.size) rows (row ∷ []), ← length-map rows (λ (row : Row). row.size))
     (⊎_elim (put_before from lent xs row.size) (put_after from lent xs row.size) (lt_or_ge (length xs) from))

@@ -1,7 +1,7 @@
 -- The engine goes along with the model: candidate by candidate, length by length, through all rounds.
 use mathlib.Core.Path.{◌≡◌, refl, sym, ap, ◌∙◌, subst}
 use mathlib.Core.Bool.{Bool, true, false, cond}
-use mathlib.Core.List.{List, [], ◌∷◌, ◌++◌, map, map_append, append_assoc, append-nil}
+use mathlib.Core.List.{List, [], ◌∷◌, ◌++◌, map, map-append, append_assoc, append-nil}
 use Prim.Native.Nat.{ℕ, zero, suc, ◌+◌, ◌-◌, ◌*◌, ◌/◌, ◌^◌, ◌<◌, ◌≤◌}
 use native.Mathlib.Nat.{mod-eq_of_lt}
 use native.Mathlib.Numerals.{add-one}
@@ -177,9 +177,9 @@ module _ {out₀ table₀ sizes₀ : List ℕ} {from : ℕ} where
       same : written_sizes from sizes₀ (st.done ++ st.here) ≡ written_sizes from sizes₀ ((settled k st).done ++ [])
       same =
           ap (written_from from sizes₀)
-          (map_append (λ (row : Row). row.size) st.done st.here
+          (map-append (λ (row : Row). row.size) st.done st.here
           ∙ ap (λ (xs : List ℕ). map (λ (row : Row). row.size) st.done ++ xs) (sym (sizes_classed labels st.here))
-          ∙ sym (map_append (λ (row : Row). row.size) st.done (map (classed labels) st.here))
+          ∙ sym (map-append (λ (row : Row). row.size) st.done (map (classed labels) st.here))
           ∙ ap (map (λ (row : Row). row.size)) (sym (append-nil (st.done ++ map (classed labels) st.here))))
 
 -- ---- all lengths
