@@ -2,7 +2,7 @@
 use mathlib.Core.Path.{◌≡◌, refl, sym, ap, ap₂, ◌∙◌}
 use mathlib.Core.List.{List, [], ◌∷◌, ◌++◌, map, append-nil}
 use Prim.Native.Nat.{ℕ, zero, suc, ◌+◌, ◌-◌, ◌*◌, ◌/◌, ◌^◌, ◌<◌, ◌≤◌}
-use native.Mathlib.Nat.{add-zero, mul-le-mul_right}
+use native.Mathlib.Nat.{mul-le-mul_right}
 use native.Mathlib.Omega.{arith}
 use lib.Bits.{bit_and, bit_xor, xor_zero_r, and_le_r}
 use lib.ListN.{length, get_or, drop, length-append, length-map}
@@ -11,7 +11,7 @@ use Rattle.bondset.specs.Sets.{members}
 use Rattle.bondset.proofs.Laws.{xor_assoc}
 use Rattle.bondset.proofs.Members.{members_zero, members_step}
 use Rattle.model.specs.Fold.{through, each}
-use Rattle.model.specs.Net.{Net, nbrs, bond}
+use Rattle.model.specs.Net.{Net, bond}
 use Rattle.model.specs.Layer.{low, ways}
 use Rattle.paths.specs.Nets.{net}
 use Rattle.counting.proofs.Tables.{others, others_word}
@@ -111,7 +111,7 @@ pub record Listing (G : Net) (us : List ℕ) (e t path from count : ℕ) (rings�
 sums_source : (A B xs ys : List ℕ) → (0 < length (A ++ B) → ys ≡ xs) → sums A ys ≡ sums A xs
 unfolding sums each
 sums_source [] B xs ys h = refl
-sums_source (a ∷ A) B xs ys h = let e : ys ≡ xs = h (omega arith) in rw e
+sums_source (a ∷ A) B xs ys h = ap (λ (l : List ℕ). sums (a ∷ A) l) (h (omega arith))
 
 module _ (adj touch layers : List ℕ) (e t path count at : ℕ) (rings₀ : List ℕ) where
   abbrev from : ℕ

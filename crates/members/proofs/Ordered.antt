@@ -1,7 +1,7 @@
 -- The rings that are listed are the members of a kept family, each once, in order; and the members have one such list.
 use mathlib.Core.Path.{◌≡◌, refl, sym, ap, ap₂, ◌∙◌, subst}
 use mathlib.Core.List.{List, [], ◌∷◌, ◌++◌, map, map-map}
-use mathlib.Core.Logic.{◌⊎◌, inl, inr, ◌↔◌}
+use mathlib.Core.Logic.{◌⊎◌, inl, inr}
 use Prim.Native.Nat.{ℕ, zero, suc, ◌<◌, ◌≤◌}
 use native.Mathlib.Omega.{arith}
 use lib.Bits.{bit_xor}
@@ -10,7 +10,7 @@ use Rattle.spans.specs.Elements.{◌∈◌, Once}
 use Rattle.bondset.specs.Sets.{members}
 use Rattle.bondset.proofs.Laws.{xor_assoc}
 use Rattle.cycles.specs.Compound.{Compound}
-use Rattle.cycles.specs.Family.{Family, Down, Candidate, Member, Kept, Size}
+use Rattle.cycles.specs.Family.{Family, Candidate, Member, Kept, Size}
 use Rattle.cycles.specs.Rows.{Less}
 use Rattle.cycles.proofs.Families.{Made, made_unique, made_at, member_made}
 use Rattle.cycles.proofs.Members.{kept_apart, made_kept_member}
@@ -26,19 +26,26 @@ use Rattle.members.specs.declared.Written.{Written}
 use Rattle.members.specs.Listed.{nearer, path_sets, sums, member_sets, adj_in, touch_in, layers_in, net_in, Told}
 use Rattle.members.specs.Ordered.{Sooner, Rising, Members}
 use Rattle.members.proofs.Routes.{Climb, climb_map, climb_each, Image, from_map, in_map, map_each, each_same}
-use Rattle.members.proofs.Routes.{Route, routes, routes_sets, routes_climb, Goes, routes_go, routes_all}
+use Rattle.members.proofs.Routes.{Route, routes, routes_sets, routes_climb, routes_go, routes_all}
 
 -- ---- the order
 
+-- Each list has two names, because cases are not split where two indices are one list.
+less_differs : {xs ys : List ℕ} → Less xs ys → xs ≡ ys → ⊥
+less_differs (Less.here {a} {b} l) e = let h : a ≡ b = cc in omega arith
+less_differs (Less.later {xs} {ys} l) e = let t : xs ≡ ys = cc in less_differs l t
+
 less_self : {xs : List ℕ} → Less xs xs → ⊥
-less_self (Less.here l) = omega arith
-less_self (Less.later l) = less_self l
+less_self l = less_differs l refl
+
+less_one_way : {xs ys vs ws : List ℕ} → Less xs ys → Less vs ws → ys ≡ vs → xs ≡ ws → ⊥
+less_one_way (Less.here {a} {b} l) (Less.here {a = u} {b = v} m) e f = let h : b ≡ u = cc in let k : a ≡ v = cc in omega arith
+less_one_way (Less.here {a} {b} l) (Less.later {a = u} m) e f = let h : b ≡ u = cc in let k : a ≡ u = cc in omega arith
+less_one_way (Less.later {a} l) (Less.here {a = u} {b = v} m) e f = let h : a ≡ u = cc in let k : a ≡ v = cc in omega arith
+less_one_way (Less.later {xs} {ys} l) (Less.later {xs = vs} {ys = ws} m) e f = let h : ys ≡ vs = cc in let k : xs ≡ ws = cc in less_one_way l m h k
 
 less_back : {xs ys : List ℕ} → Less xs ys → Less ys xs → ⊥
-less_back (Less.here l) (Less.here m) = omega arith
-less_back (Less.here l) (Less.later m) = omega arith
-less_back (Less.later l) (Less.here m) = omega arith
-less_back (Less.later l) (Less.later m) = less_back l m
+less_back l m = less_one_way l m refl refl
 
 less_append : {xs ys : List ℕ} (vs ws : List ℕ) → Less xs ys → Less (xs ++ vs) (ys ++ ws)
 less_append vs ws (Less.here l) = Less.here l
@@ -182,7 +189,7 @@ module _ (c : Compound) (rank pre : ℕ → ℕ) (ready : Ready c rank pre) (us 
       let g = from_each (λ v. map (pair (link G f) v) (routes G us d f.q)) (routes G us d f.p) m in
       go g.a g.mem (from_map (pair (link G f) g.a) (routes G us d f.q) g.here)
     where
-      go : {x : Pair} (v : Route) → v ∈ routes G us d f.p → Image (pair (link G f) v) (routes G us d f.q) x → Makes x
+      go : (v : Route) → v ∈ routes G us d f.p → {x : Pair} → Image (pair (link G f) v) (routes G us d f.q) x → Makes x
       go v m (Image.image {x = w} n) = made_pair v w m n
 
   -- The paths of a member are those that it was made of.

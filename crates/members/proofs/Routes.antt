@@ -1,12 +1,12 @@
 -- The paths from an atom to the top with their bond sets: all of them, and in order.
-use mathlib.Core.Path.{◌≡◌, refl, sym, ap, ap₂, ◌∙◌, subst}
+use mathlib.Core.Path.{◌≡◌, refl, sym, ap, ap₂, ◌∙◌}
 use mathlib.Core.List.{List, [], ◌∷◌, ◌++◌, map, map-map}
 use mathlib.Core.Logic.{⊎_elim}
-use Prim.Native.Nat.{ℕ, zero, suc, ◌^◌, ◌<◌, ◌≤◌}
+use Prim.Native.Nat.{ℕ, zero, suc, ◌<◌, ◌≤◌}
 use native.Mathlib.Omega.{arith}
 use lib.Bits.{bit_xor}
 use Rattle.spans.specs.Elements.{◌∈◌}
-use Rattle.spans.proofs.Lists.{in_left, in_right, in_append}
+use Rattle.spans.proofs.Lists.{in_append}
 use Rattle.bondset.specs.Sets.{members, Climbs}
 use Rattle.bondset.proofs.Members.{members_climb, mem_of_bit, bit_of_mem}
 use Rattle.cycles.specs.Compound.{Compound, Bonded}
@@ -42,13 +42,14 @@ pub data Image {X Y : Type 0} (g : X → Y) (xs : List X) : Y → Type 0 where
   image : {x : X} → x ∈ xs → Image g xs (g x)
 
 pub from_map : {X Y : Type 0} (g : X → Y) (xs : List X) {y : Y} → y ∈ map g xs → Image g xs y
+from_map g [] m = elim m [ ]
 from_map g (x ∷ xs) ◌∈◌.first = image ◌∈◌.first
 from_map g (x ∷ xs) (◌∈◌.later m) = more (from_map g xs m)
   where
     more : {y : _} → Image g xs y → Image g (x ∷ xs) y
     more (image m) = image (◌∈◌.later m)
 
-pub in_map : {X Y : Type 0} (g : X → Y) {xs : List X} {x : X} → x ∈ xs → g x ∈ map g xs
+pub in_map : {X Y : Type 0} (g : X → Y) {x : X} {xs : List X} → x ∈ xs → g x ∈ map g xs
 in_map g ◌∈◌.first = ◌∈◌.first
 in_map g (◌∈◌.later m) = ◌∈◌.later (in_map g m)
 
@@ -124,11 +125,12 @@ module _ (G : Net) (us : List ℕ) where
   routes_start : (e t : ℕ) {w : Route} → w ∈ routes e t → Starts t w
   unfolding routes
   routes_start zero t ◌∈◌.first = starts
+  routes_start zero t (◌∈◌.later m) = elim m [ ]
   routes_start (suc e) t m =
       let g = from_each (λ s. map (longer G t s) (routes e s)) (members 64 (nearer G us e t)) m in
       go g.a (from_map (longer G t g.a) (routes e g.a) g.here)
     where
-      go : {w : Route} (s : ℕ) → Image (longer G t s) (routes e s) w → Starts t w
+      go : (s : ℕ) {w : Route} → Image (longer G t s) (routes e s) w → Starts t w
       go s (image m) = starts
 
   -- They stand in order.
@@ -158,6 +160,7 @@ module _ (c : Compound) (rank pre : ℕ → ℕ) (ready : Ready c rank pre) (us 
 
   goes_here : {t : ℕ} {Q : List ℕ} {w : Route} → Down c rank r t 0 Q → w ∈ (record { atoms = t ∷ []; bonds = 0 } ∷ []) → Goes t 0 w
   goes_here Down.top ◌∈◌.first = record { down = Down.top; edges = Edges.point }
+  goes_here Down.top (◌∈◌.later m) = elim m [ ]
 
   goes_next : {t e s : ℕ} {Q : List ℕ} {w : Route} → Down c rank r t (suc e) Q → Bonded c t s → ((v : Route) → v ∈ routes G us e s → Goes s e v)
       → Image (longer G t s) (routes G us e s) w → Goes t (suc e) w

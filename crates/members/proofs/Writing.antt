@@ -1,24 +1,22 @@
 -- What is written into places and read again: the first 96 bonds of each set, which is all that 12 bytes hold.
 use mathlib.Core.Path.{◌≡◌, refl, sym, ap, ap₂, ◌∙◌}
-use mathlib.Core.Logic.{⊎_elim}
 use mathlib.Core.List.{List, [], ◌∷◌, ◌++◌, map, append_assoc}
 use Prim.Native.Nat.{ℕ, zero, suc, ◌+◌, ◌-◌, ◌*◌, ◌/◌, ◌%◌, ◌^◌, ◌<◌, ◌≤◌}
 use native.Mathlib.Nat.{mod-lt, mod-mod, div-add-mod', zero-mul, mul-le-mul_right}
 use native.Mathlib.Omega.{arith}
 use lib.Arith.{lt-one}
 use lib.Bits.{bit_xor, xor_zero_l, xor_mod}
-use lib.ListN.{length, get_or, take, drop, length-append, length-map, length-take, get_or-append}
+use lib.ListN.{length, get_or, take, drop, get_or-append}
 use lib.Pow.{pow_pos, mod-pow-add}
 use lib.Seq.{drop_at, length-take-le}
 use Rattle.bondset.specs.Bytes.{byte_of, bytes_of, of_first, of_bytes}
 use Rattle.bondset.proofs.Laws.{pos_of_ne, field_word_lo}
 use Rattle.bondset.proofs.Bytes.{length_bytes_of, get_d_bytes_of}
 use Rattle.model.specs.Fold.{each}
-use Rattle.model.specs.Net.{Net}
 use Rattle.model.specs.Layer.{ways}
 use Rattle.paths.specs.Nets.{net}
 use Rattle.members.specs.Listed.{path_sets, sums, member_sets, placed, places_at, over, last_sets, Counted, Room, Listed}
-use Rattle.members.proofs.Places.{over_none, length_over, over_over, over_whole, placed_append, placed_first, placed_one, length_placed, length_sums}
+use Rattle.members.proofs.Places.{length_over, over_over, over_whole, placed_append, placed_first, placed_one, length_placed, length_sums}
 use Rattle.members.proofs.Listing.{path_sets_many}
 
 -- ---- 12 bytes of a set
