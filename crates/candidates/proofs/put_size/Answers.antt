@@ -2,7 +2,6 @@
 use Prim.Native.Nat.{◌*◌}
 use native.Mathlib.Omega.{arith}
 use Rattle.candidates.proofs.Kept.{size_early, size_late, size_put}
-use borrow.Author.Rules.{rules}
 use borrow.Author.Tests.{lt-ltb, le-ltb}
 use Rattle.bondset.proofs.Laws.{pos_of_ne}
 use Rattle.candidates.proofs.put_size.Goals as goal

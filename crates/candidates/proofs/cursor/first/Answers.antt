@@ -1,5 +1,4 @@
 -- Before the first candidate, and on to it.
-use borrow.Author.Rules.{rules}
 use Rattle.candidates.proofs.Ahead.{firsts}
 use Rattle.candidates.proofs.cursor.first.Goals as goal
 

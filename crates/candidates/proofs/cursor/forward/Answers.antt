@@ -1,8 +1,4 @@
-use mathlib.Core.Path.{◌≡◌, refl, ◌∙◌}
-use mathlib.Core.List.{List}
-use Prim.Native.Nat.{ℕ}
-use borrow.Author.Rules.{rules}
-use Rattle.candidates.specs.Cursor.{ahead, left, Stood}
+use mathlib.Core.Path.{refl, ◌∙◌}
 use Rattle.candidates.proofs.cursor.forward.Goals as goal
 
 pub loop-at-init : goal.loop-at-init

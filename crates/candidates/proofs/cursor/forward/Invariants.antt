@@ -1,8 +1,7 @@
 -- What is to come stays the same until there is a q.
-use mathlib.Core.Path.{◌≡◌, refl, ◌∙◌}
+use mathlib.Core.Path.{◌≡◌}
 use mathlib.Core.List.{List}
 use Prim.Native.Nat.{ℕ}
-use borrow.Author.Rules.{rules}
 use Rattle.candidates.specs.Cursor.{ahead, left, Stood}
 use Rattle.candidates.proofs.cursor.forward.Given as goal
 

@@ -1,5 +1,4 @@
 -- Without the candidate in hand, and on to the next.
-use borrow.Author.Rules.{rules}
 use Rattle.candidates.proofs.Ahead.{rest_stood, passes}
 use Rattle.candidates.proofs.cursor.next.Goals as goal
 

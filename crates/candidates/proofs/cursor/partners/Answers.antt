@@ -1,6 +1,5 @@
 -- With no atom x between them p and its partners are bonded.
 use mathlib.Core.Path.{ap}
-use borrow.Author.Rules.{rules}
 use borrow.Author.Tests.{eq-eqb, ne_eqb}
 use lib.Bits.{bit_and}
 use lib.ListN.{get_or}

@@ -1,7 +1,6 @@
 -- The layer at half the length holds p for odd lengths, and x for even ones.
 use mathlib.Core.Path.{refl}
 use Prim.Native.Nat.{◌/◌}
-use borrow.Author.Rules.{rules}
 use Rattle.candidates.proofs.Ahead.{starts_odd, starts_even}
 use Rattle.candidates.proofs.cursor.start.Goals as goal
 

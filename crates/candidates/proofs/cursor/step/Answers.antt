@@ -1,7 +1,6 @@
 -- There is a p left, or none and an x.
 use mathlib.Core.Path.{refl}
 use native.Mathlib.Omega.{arith}
-use borrow.Author.Rules.{rules}
 use Rattle.bondset.proofs.Laws.{trailing, pos_of_ne}
 use Rattle.candidates.proofs.Ahead.{moves_ps, moves_xs}
 use Rattle.candidates.proofs.cursor.step.Goals as goal
