@@ -11,9 +11,6 @@ use Rattle.labels.proofs.Turns.{turn, turned}
 use Rattle.labels.proofs.Below.{joined_alike}
 use Rattle.labels.proofs.join.Goals as goal
 
-pub shape_of-labels-then-alike : goal.shape_of-labels-then-alike
-shape_of-labels-then-alike c = refl
-
 pub returns-then-alike : goal.returns-then-alike
 returns-then-alike c =
     let a = c.args in

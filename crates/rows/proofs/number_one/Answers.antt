@@ -1,10 +1,6 @@
 -- A ring that is its own label opens a class, and any other joins one.
-use native.Mathlib.Omega.{arith}
 use Rattle.rows.proofs.Numbering.{numbered_opens, numbered_joins, numbered_stays}
 use Rattle.rows.proofs.number_one.Goals as goal
-
-pub overflow_cast-l : goal.overflow_cast-l
-overflow_cast-l c = omega (arith, c.type_inv.labels c.args.i)
 
 pub returns-then-l-i : goal.returns-then-l-i
 returns-then-l-i c =
