@@ -1,11 +1,7 @@
 -- What `refusal_of` answers is what is told.
 use mathlib.Core.Path.{◌≡◌, refl, sym, ap, ◌∙◌}
-use mathlib.Core.List.{List, ◌∷◌, []}
 use Prim.Native.Nat.{ℕ}
-use types.Run.{OneOf, miss}
-use denote.Enum.Declared.{tag_of}
 use Rattle.answers.specs.Answered.{refused}
-use Rattle.rings.specs.contracts.Answer.{the_type}
 use Rattle.rings.specs.declared.Answer.{Answer}
 use Rattle.rings.specs.declared.Answer.TheVariants.{Full, WrongAtoms, WrongBytes, NoAtom, Loop, Again, Pieces, FewRows, FewClassRows, ManyRings}
 use Rattle.rings.specs.declared.Refusal.{Refusal}
@@ -14,17 +10,13 @@ use Rattle.rings.specs.Calls.{told, refusal_in}
 pub refusal_variant : {a v : Answer} → a ≡ v → refusal_in (told v 0) ≡ refusal_in (told a 0)
 refusal_variant e = ap (λ (x : Answer). refusal_in (told x 0)) (sym e)
 
--- The places of the variants after `Full`.
-abbrev pub others : List ℕ
-others = 1 ∷ 2 ∷ 3 ∷ 4 ∷ 5 ∷ 6 ∷ 7 ∷ 8 ∷ 9 ∷ []
-
 -- The answer is not `Full`, as the other arm of a `match` has it.
 abbrev pub NotFull : Answer → Type 0
-NotFull a = OneOf others (tag_of the_type a)
+NotFull a = (cyclomatic families classes total rings : ℕ) → a ≡ Full cyclomatic families classes total rings → ⊥
 
 not_full_told : (a : Answer) (size : ℕ) → NotFull a → told a size ≡ refused (refusal_in (told a 0)).number (refusal_in (told a 0)).at
 unfolding told refusal_in
-not_full_told (Full cyclomatic families classes total rings) size k = absurd (miss others 0 tt k)
+not_full_told (Full cyclomatic families classes total rings) size k = absurd (k cyclomatic families classes total rings refl)
 not_full_told WrongAtoms size k = refl
 not_full_told WrongBytes size k = refl
 not_full_told (NoAtom bond) size k = refl

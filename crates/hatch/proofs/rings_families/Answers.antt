@@ -1,0 +1,9 @@
+-- The engine's claim for every row number, read from the reply.
+use Rattle.hatch.proofs.Telling.{families_told}
+use Rattle.hatch.proofs.rings_families.Goals as goal
+
+pub returns : goal.returns
+returns c =
+    let f = c.families-answer in
+    let told = families_told f.result c.replied.ensures f.ensures in
+    record { answered = told.0; plain = told.1 }
