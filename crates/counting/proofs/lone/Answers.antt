@@ -14,18 +14,13 @@ use Rattle.counting.proofs.lone.Goals as goal
 pub loop-i-init : goal.loop-i-init
 loop-i-init c = (omega arith, omega arith, refl)
 
-pub returns-then-down-eq0 : goal.returns-then-down-eq0
-returns-then-down-eq0 c e = let z : ◌≡◌ {A = ℕ} 0 1 = cc in absurd (omega arith)
-
-pub returns-then-down-ne0 : goal.returns-then-down-ne0
-returns-then-down-ne0 c e = let z : ◌≡◌ {A = ℕ} 0 1 = cc in absurd (omega arith)
-
 pub overflow_cast-a : goal.overflow_cast-a
 overflow_cast-a c =
     let l = c.loop-i in
     let a = c.args in
     omega (arith, trailing_le 64 (bit_and (get_or a.adj.now l.a 0) (get_or a.layers.now (l.i - 1) 0)))
 
+-- That one way alone goes down is read from the test, whatever the test is called.
 pub loop-i-preserved : goal.loop-i-preserved
 loop-i-preserved c =
     let l = c.loop-i in
@@ -38,7 +33,7 @@ loop-i-preserved c =
       omega (arith, l.invariant.0),
       low_lt down some word,
       l.invariant.2 ∙ ap (λ (k : ℕ). ways (net a.adj.now []) a.layers.now k l.a) back
-          ∙ ways_lone a.adj.now a.layers.now (l.i - 1) l.a some word c.if-down-ne0.false,
+          ∙ ways_lone a.adj.now a.layers.now (l.i - 1) l.a some word (omega arith),
     )
 
 pub returns : goal.returns
