@@ -1,7 +1,6 @@
 use mathlib.Core.Path.{refl}
 use native.Mathlib.Omega.{arith}
 use borrow.Author.Rules.{rules}
-use lib.Count.{trailing_le}
 use Rattle.bondset.proofs.Laws.{pos_of_ne}
 use Rattle.bondset.proofs.Members.{and_pred_lt}
 use Rattle.counting.proofs.Tables.{low_lt, low_in, filling_start, filling_more, filling_end, others_more}
@@ -11,9 +10,6 @@ pub loop-rest-init : goal.loop-rest-init
 loop-rest-init c =
     let a = c.args in
     (search rules, filling_start a.adj.now a.layers.now a.e c.requires.disjoint a.counts.now c.requires.table, record { stay = λ t z. refl })
-
-pub overflow_cast-t : goal.overflow_cast-t
-overflow_cast-t c = omega (arith, trailing_le 64 c.loop-rest.rest)
 
 pub total-sum-requires-clause-t_bound : goal.total-sum-requires-clause-t_bound
 total-sum-requires-clause-t_bound c = low_lt c.loop-rest.rest (pos_of_ne _ c.loop-rest-test.true) c.loop-rest.invariant.1.word

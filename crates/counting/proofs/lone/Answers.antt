@@ -1,24 +1,14 @@
-use mathlib.Core.Path.{◌≡◌, refl, ap, ◌∙◌}
+use mathlib.Core.Path.{◌≡◌, ap, ◌∙◌}
 use mathlib.Core.List.{[]}
 use Prim.Native.Nat.{ℕ, suc, ◌-◌, ◌^◌, ◌<◌}
 use native.Mathlib.Omega.{arith}
 use lib.Bits.{bit_and, and_le_l}
-use lib.Count.{trailing_le}
 use lib.ListN.{get_or}
 use Rattle.bondset.proofs.Laws.{pos_of_ne}
 use Rattle.model.specs.Layer.{ways}
 use Rattle.paths.specs.Nets.{net}
 use Rattle.counting.proofs.Tables.{low_lt, ways_lone}
 use Rattle.counting.proofs.lone.Goals as goal
-
-pub loop-i-init : goal.loop-i-init
-loop-i-init c = (omega arith, omega arith, refl)
-
-pub overflow_cast-a : goal.overflow_cast-a
-overflow_cast-a c =
-    let l = c.loop-i in
-    let a = c.args in
-    omega (arith, trailing_le 64 (bit_and (get_or a.adj.now l.a 0) (get_or a.layers.now (l.i - 1) 0)))
 
 -- That one way alone goes down is read from the test, whatever the test is called.
 pub loop-i-preserved : goal.loop-i-preserved

@@ -1,17 +1,10 @@
 use mathlib.Core.Path.{refl}
 use native.Mathlib.Omega.{arith}
 use borrow.Author.Rules.{rules}
-use lib.Count.{trailing_le}
 use Rattle.bondset.proofs.Laws.{pos_of_ne}
 use Rattle.bondset.proofs.Members.{and_pred_lt}
-use Rattle.counting.proofs.Tables.{low_lt, others_word, done_start, done_more, done_end}
+use Rattle.counting.proofs.Tables.{low_lt, others_word, done_more, done_end}
 use Rattle.counting.proofs.ones.Goals as goal
-
-pub loop-rest-init : goal.loop-rest-init
-loop-rest-init c = (search rules, c.ranges.s.fits, done_start _ _ c.args.counts.now)
-
-pub overflow_cast-counts : goal.overflow_cast-counts
-overflow_cast-counts c = omega (arith, trailing_le 64 c.loop-rest.rest)
 
 pub offset_bounds-counts-rest : goal.offset_bounds-counts-rest
 offset_bounds-counts-rest c = omega (arith, low_lt c.loop-rest.rest (pos_of_ne _ c.loop-rest-test.true) c.loop-rest.invariant.1)

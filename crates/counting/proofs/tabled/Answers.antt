@@ -15,9 +15,6 @@ fill-requires-clause-disjoint c =
     let a = c.args in
     disjoint_less a.adj.now a.layers.now a.d c.requires.disjoint (c.loop-e.e + 1) (omega arith)
 
-pub loop-e-preserved : goal.loop-e-preserved
-loop-e-preserved c = (c.fill.ensures.next_table, omega arith, search rules)
-
 -- Both atoms are among 64.
 p_lt : (s : Start) → s.args.p < 64
 p_lt s = layer_lt s.args.adj.now s.args.layers.now s.args.d s.requires.disjoint s.args.p s.requires.p_value

@@ -1,7 +1,6 @@
 use mathlib.Core.List.{[]}
 use Prim.Native.Nat.{◌+◌}
 use native.Mathlib.Omega.{arith}
-use lib.Count.{trailing_le}
 use Rattle.bondset.proofs.Laws.{pos_of_ne}
 use Rattle.bondset.proofs.Members.{and_pred_lt}
 use Rattle.paths.specs.Nets.{net}
@@ -13,9 +12,6 @@ pub loop-rest-init : goal.loop-rest-init
 loop-rest-init c =
     let a = c.args in
     adding_start a.adj.now a.layers.now a.e a.t (c.requires.disjoint.words a.e (omega arith))
-
-pub overflow_cast-s : goal.overflow_cast-s
-overflow_cast-s c = omega (arith, trailing_le 64 c.loop-rest.rest)
 
 pub offset_bounds-counts-s : goal.offset_bounds-counts-s
 offset_bounds-counts-s c = omega (arith, low_lt c.loop-rest.rest (pos_of_ne _ c.loop-rest-test.true) c.loop-rest.invariant.word)

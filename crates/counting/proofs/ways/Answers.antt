@@ -1,5 +1,4 @@
 -- One path leads from either atom, or the table counts them.
-use mathlib.Core.Path.{sym}
 use Rattle.counting.proofs.Tables.{layer_lt}
 use Rattle.counting.proofs.ways.Goals as goal
 
@@ -9,6 +8,3 @@ lone-requires-clause-t_bound c = layer_lt c.args.adj.now c.args.layers.now c.arg
 pub lone-requires-then-lone-clause-t_bound : goal.lone-requires-then-lone-clause-t_bound
 lone-requires-then-lone-clause-t_bound c =
     layer_lt c.args.adj.now c.args.layers.now c.args.d c.requires.disjoint c.args.q c.requires.q_value
-
-pub returns-then-lone-2 : goal.returns-then-lone-2
-returns-then-lone-2 c = record { one = sym (c.lone.ensures c.if-lone.true); other = sym (c.lone-then-lone.ensures c.if-lone-2.true) }

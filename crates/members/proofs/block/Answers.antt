@@ -7,9 +7,6 @@ use Rattle.members.specs.Listed.{set_of}
 use Rattle.members.proofs.Places.{rest_block, block_start, block_more, block_end}
 use Rattle.members.proofs.block.Goals as goal
 
-pub loop-j-init : goal.loop-j-init
-loop-j-init c = (omega arith, refl, refl)
-
 pub loop-j-preserved : goal.loop-j-preserved
 loop-j-preserved c =
     let l = c.loop-j in

@@ -1,12 +1,7 @@
-use mathlib.Core.Path.{refl}
 use native.Mathlib.Omega.{arith}
 use borrow.Author.Rules.{rules}
-use lib.Seq.{paste-zero}
 use Rattle.members.proofs.Gathered.{copy_more, copy_end}
 use Rattle.members.proofs.copy.Goals as goal
-
-pub loop-i-init : goal.loop-i-init
-loop-i-init c = (omega arith, refl, refl, paste-zero c.args.to.now c.args.at c.args.from.now)
 
 pub loop-i-preserved : goal.loop-i-preserved
 loop-i-preserved c =

@@ -1,6 +1,5 @@
 -- One bond, or the sum of two.
 use mathlib.Core.Path.{ap₂, ◌∙◌}
-use borrow.Author.Rules.{rules}
 use borrow.Author.Tests.{eq-eqb, ne_eqb}
 use lib.Bits.{bit_xor}
 use Rattle.model.specs.State.{link}
@@ -9,12 +8,6 @@ use Rattle.paths.proofs.link.Goals as goal
 pub returns-then-x-eq255 : goal.returns-then-x-eq255
 unfolding link
 returns-then-x-eq255 c k t = rw (eq-eqb c.args.x 255 c.if-x-eq255.true) c.bond.ensures
-
-pub bond-requires-2 : goal.bond-requires-2
-bond-requires-2 c = let h = c.requires.x_bound c.if-x-eq255.false in search rules
-
-pub bond-requires-3 : goal.bond-requires-3
-bond-requires-3 c = let h = c.requires.x_bound c.if-x-eq255.false in search rules
 
 pub returns : goal.returns
 unfolding link

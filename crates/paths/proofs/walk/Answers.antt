@@ -1,4 +1,4 @@
-use mathlib.Core.Path.{refl, sym, ◌∙◌}
+use mathlib.Core.Path.{sym, ◌∙◌}
 use native.Mathlib.Omega.{arith}
 use borrow.Author.Rules.{rules}
 use Rattle.bondset.specs.Sets.{value}
@@ -6,9 +6,6 @@ use Rattle.model.specs.Net.{bond}
 use Rattle.paths.specs.Nets.{net}
 use Rattle.paths.proofs.Steps.{apart_one, apart_other, walk_none, walk_on, walk_stops}
 use Rattle.paths.proofs.walk.Goals as goal
-
-pub loop-i-init : goal.loop-i-init
-loop-i-init c = (omega arith, omega arith, omega arith, refl)
 
 pub returns-then-not-apart : goal.returns-then-not-apart
 returns-then-not-apart c =
