@@ -4,7 +4,7 @@
 
 #![tactic(auto)]
 
-ghost use Rattle.std.specs.Prelude.{◌≤◌, ◌+◌, ◌*◌, length};
+ghost use Rattle.std.specs.Prelude.{◌≤◌, ◌+◌, ◌*◌, length, IfOk};
 ghost use Rattle.listingtext.specs.Listing.{Wrote};
 ghost use Rattle.rings.specs.Calls.{told};
 ghost use Rattle.listing.specs.Listed.{lines_of, families_in, classes_in, Listed};
@@ -12,6 +12,7 @@ ghost use Rattle.listing.specs.Listed.{lines_of, families_in, classes_in, Listed
 use housetext::Text;
 use listingtext::Head;
 use rings::Answer;
+use std::io::{self, Read};
 
 // The listing of an answer, or the lines of its refusal.
 fn write_answer(
@@ -87,12 +88,27 @@ fn list(text: &[u8], out: &mut [u8]) -> usize
     }
 }
 
+// Reads until the buffer is full or the input ends, and answers how many bytes stand at its start.
+fn read_full<R: Read>(input: &mut R, buffer: &mut [u8]) -> io::Result<usize>
+    ensures { IfOk result (λ n. n ≤ length buffer.new) }
+{
+    let mut done = 0;
+    while done < buffer.len() {
+        let n = input.read(&mut buffer[done..])?;
+        if n == 0 {
+            break;
+        }
+        done += n;
+    }
+    Ok(done)
+}
+
 // Standard input is read up to 4,096 bytes. What `list` promises of these it promises of the whole input: `listed_whole` in
 // proofs/Lines.antt. An input of more than 3,335 bytes departs, at the same line as they do: `reads_long_beginning` of `housetext`.
-fn main() {
-    let mut text = io::buffer();
-    let n = io::read_full(0, &mut text);
+fn main(rt: HostRuntime) -> io::Result<()> {
+    let mut text = [0u8; 4096];
+    let n = read_full(&mut rt.stdin(), &mut text)?;
     let mut out = [0u8; 233265];
     let end = list(&text[..n], &mut out);
-    io::write_all(1, &out[..end]);
+    rt.write_all(&out[..end])
 }
