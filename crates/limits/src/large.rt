@@ -1,6 +1,8 @@
 //! Compounds of the largest size.
 ghost use Rattle.std.specs.Prelude.{◌<◌};
 
+use std::io;
+
 // Stores a bond in a list of up to 97.
 fn put(bonds: &mut [u8; 194], bond: usize, a: usize, b: usize)
     requires { bond < 97 }
@@ -32,17 +34,25 @@ fn prism() -> [u8; 194] {
 }
 
 /// Runs a case of n atoms on so many bytes of the path's bonds, with room for all rows.
-pub fn path_of(name: &[u8], n: usize, bytes: usize) {
+pub fn path_of(rt: &impl Print, name: &[u8], n: usize, bytes: usize) -> io::Result<()> {
     if bytes <= 194 {
         let bonds = path();
-        crate::line::run(name, n, &bonds[0..bytes], 512, 512);
+        crate::line::run(rt, name, n, &bonds[0..bytes], 512, 512)?;
     }
+    Ok(())
 }
 
 /// Runs a case of 64 atoms on so many bytes of the prism's bonds.
-pub fn prism_of(name: &[u8], bytes: usize, row_bytes: usize, class_bytes: usize) {
+pub fn prism_of(
+    rt: &impl Print,
+    name: &[u8],
+    bytes: usize,
+    row_bytes: usize,
+    class_bytes: usize,
+) -> io::Result<()> {
     if bytes <= 194 {
         let bonds = prism();
-        crate::line::run(name, 64, &bonds[0..bytes], row_bytes, class_bytes);
+        crate::line::run(rt, name, 64, &bonds[0..bytes], row_bytes, class_bytes)?;
     }
+    Ok(())
 }

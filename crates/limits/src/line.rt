@@ -2,25 +2,33 @@
 ghost use Rattle.std.specs.Prelude.{◌≤◌};
 
 use rings::Answer;
+use std::io;
 
 // The five numbers of a full answer.
-fn say_full(cyclomatic: u64, families: u64, classes: u64, total: u64, rings: u64) {
-    cases::say(b": cyclomatic=", cyclomatic);
-    cases::say(b" families=", families);
-    cases::say(b" classes=", classes);
-    cases::say(b" total=", total);
-    cases::say(b" rings=", rings);
+fn say_full(
+    rt: &impl Print,
+    cyclomatic: u64,
+    families: u64,
+    classes: u64,
+    total: u64,
+    rings: u64,
+) -> io::Result<()> {
+    cases::say(rt, b": cyclomatic=", cyclomatic)?;
+    cases::say(rt, b" families=", families)?;
+    cases::say(rt, b" classes=", classes)?;
+    cases::say(rt, b" total=", total)?;
+    cases::say(rt, b" rings=", rings)
 }
 
 // The refusal of an answer.
-fn say_refusal(answer: Answer) {
+fn say_refusal(rt: &impl Print, answer: Answer) -> io::Result<()> {
     let refusal = rings::refusal_of(answer);
-    cases::say(b": refused=", refusal.number);
-    cases::say(b" at=", refusal.at);
+    cases::say(rt, b": refused=", refusal.number)?;
+    cases::say(rt, b" at=", refusal.at)
 }
 
 // What was answered.
-fn say_answer(answer: Answer) {
+fn say_answer(rt: &impl Print, answer: Answer) -> io::Result<()> {
     match answer {
         Answer::Full {
             cyclomatic,
@@ -28,8 +36,8 @@ fn say_answer(answer: Answer) {
             classes,
             total,
             rings,
-        } => say_full(cyclomatic, families, classes, total, rings),
-        _ => say_refusal(answer),
+        } => say_full(rt, cyclomatic, families, classes, total, rings),
+        _ => say_refusal(rt, answer),
     }
 }
 
@@ -84,12 +92,19 @@ fn ask(n: usize, bonds: &[u8], row_bytes: usize, class_bytes: usize) -> Outcome 
 }
 
 /// Runs a case with so many bytes lent for each kind of row, up to 512, and prints its line.
-pub fn run(name: &[u8], n: usize, bonds: &[u8], row_bytes: usize, class_bytes: usize) {
+pub fn run(
+    rt: &impl Print,
+    name: &[u8],
+    n: usize,
+    bonds: &[u8],
+    row_bytes: usize,
+    class_bytes: usize,
+) -> io::Result<()> {
     let outcome = ask(n, bonds, row_bytes, class_bytes);
     let answer = outcome.answer;
-    io::write_all(1, name);
-    say_answer(answer);
-    cases::say(b" written=", outcome.rows);
-    cases::say(b",", outcome.class_rows);
-    io::write_all(1, b"\n");
+    rt.write_all(name)?;
+    say_answer(rt, answer)?;
+    cases::say(rt, b" written=", outcome.rows)?;
+    cases::say(rt, b",", outcome.class_rows)?;
+    rt.write_all(b"\n")
 }

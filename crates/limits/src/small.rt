@@ -1,8 +1,9 @@
 //! Small compounds in tables: a digit for the number of atoms, three for the bytes lent for family rows, three for those lent for class rows,
 //! and then two digits for each bond, as in `3 008 005 01 12 02`.
-ghost use Rattle.std.specs.Prelude.{◌<◌, ◌≤◌, ◌+◌, length};
+ghost use Rattle.std.specs.Prelude.{◌<◌, ◌≤◌, ◌+◌, length, IfOk};
 
 use cases::Case;
+use std::io;
 
 // Stores a digit's value, if there is room. Any other byte is passed over.
 fn digit(byte: u8, values: &mut [u8], count: usize) -> usize
@@ -39,35 +40,37 @@ fn number(a: u8, b: u8, c: u8) -> usize {
 }
 
 // Runs a case whose digits are these.
-fn run(name: &[u8], values: &[u8]) {
+fn run(rt: &impl Print, name: &[u8], values: &[u8]) -> io::Result<()> {
     if values.len() < 7 {
-        return;
+        return Ok(());
     }
     crate::line::run(
+        rt,
         name,
         number(0, 0, values[0]),
         &values[7..],
         number(values[1], values[2], values[3]),
         number(values[4], values[5], values[6]),
-    );
+    )
 }
 
 // Runs the first case of a table, and answers where the next one starts.
-fn first(table: &[u8]) -> usize
-    ensures result_nonzero { 0 < result }
-    ensures upper_bound { result ≤ length table.now + 1 }
+fn first(rt: &impl Print, table: &[u8]) -> io::Result<usize>
+    ensures result_nonzero { IfOk result (λ next. 0 < next) }
+    ensures upper_bound { IfOk result (λ next. next ≤ length table.now + 1) }
 {
     let Case { name, from, to } = cases::first(table);
     let mut values = [0u8; 32];
     let count = digits(&table[from..to], &mut values);
-    run(&table[0..name], &values[0..count]);
-    to + 1
+    run(rt, &table[0..name], &values[0..count])?;
+    Ok(to + 1)
 }
 
 /// Runs all cases of a table.
-pub fn all(table: &[u8]) {
+pub fn all(rt: &impl Print, table: &[u8]) -> io::Result<()> {
     let mut at = 0;
     while at < table.len() {
-        at += first(&table[at..]);
+        at += first(rt, &table[at..])?;
     }
+    Ok(())
 }
