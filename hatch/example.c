@@ -1,7 +1,8 @@
 /* Lists the rings of one compound: two atoms joined by three paths of three bonds each. It is lent as bytes for the listing, and
  * as records for the size of each family.
  *
- *     rt staticlib hatch && cc -o target/example hatch/example.c target/staticlib/libhatch.a && target/example
+ *     (cd crates/hatch && rt lib) && mkdir -p target
+ *     cc -o target/example hatch/example.c crates/hatch/out/libhatch.a && target/example
  */
 #include <inttypes.h>
 #include <stdio.h>

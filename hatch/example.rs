@@ -1,6 +1,7 @@
 //! Lists the rings of one compound, lent as records: two atoms joined by three paths of three bonds each.
 //!
-//!     (cd crates/hatch && rt lib) && rustc --edition 2021 -L native=crates/hatch/out -l static=hatch -o target/example hatch/example.rs && target/example
+//!     (cd crates/hatch && rt lib) && mkdir -p target
+//!     rustc --edition 2021 -L native=crates/hatch/out -l static=hatch -o target/example hatch/example.rs && target/example
 
 #[allow(dead_code)]
 mod rings;
