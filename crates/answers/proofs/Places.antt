@@ -18,15 +18,15 @@ module _ {X : Type 0} (w : ℕ) (block : X → List ℕ) (blocks : List X → Li
   length_blocks (x ∷ xs) = rw more (simp length-append (omega (arith, wide x, length_blocks xs, mul-suc w (length xs))))
 
   -- Byte j of block k.
-  pub get_d_blocks : {x : X} {xs : List X} {k : ℕ} (j l : ℕ) (rest : List ℕ) → j < w → l ≡ w * k + j → At xs k x
+  pub get_or_blocks : {x : X} {xs : List X} {k : ℕ} (j l : ℕ) (rest : List ℕ) → j < w → l ≡ w * k + j → At xs k x
       → get_or (blocks xs ++ rest) l 0 ≡ get_or (block x) j 0
-  get_d_blocks {x} j l rest h e (At.here {xs = xs}) =
+  get_or_blocks {x} j l rest h e (At.here {xs = xs}) =
       let d : l ≡ j = omega (arith, mul-zero w) in
       let g : j < length (block x) = omega (arith, wide x) in
       rw (d, more, append_assoc) (get_or-append (block x) (blocks xs ++ rest) 0 j g)
-  get_d_blocks j l rest h e (At.later {y = y} {xs = xs} {i = k} a) =
+  get_or_blocks j l rest h e (At.later {y = y} {xs = xs} {i = k} a) =
       let d : l ≡ length (block y) + (w * k + j) = omega (arith, wide y, mul-suc w k) in
-      rw (d, more, append_assoc) (get_or-append-add (block y) (blocks xs ++ rest) (w * k + j) 0 ∙ get_d_blocks j (w * k + j) rest h refl a)
+      rw (d, more, append_assoc) (get_or-append-add (block y) (blocks xs ++ rest) (w * k + j) 0 ∙ get_or_blocks j (w * k + j) rest h refl a)
 
 -- ---- the rows
 -- The eight bytes of a row.
@@ -39,15 +39,15 @@ unfolding family_bytes
 length_family_bytes = length_blocks 8 row_bytes family_bytes (λ row. refl) refl (λ row rows. refl)
 
 -- Byte j of row k.
-pub get_d_family_bytes : {row : Row} {rows : List Row} {k : ℕ} (j l : ℕ) (rest : List ℕ) → j < 8 → l ≡ 8 * k + j → At rows k row
+pub get_or_family_bytes : {row : Row} {rows : List Row} {k : ℕ} (j l : ℕ) (rest : List ℕ) → j < 8 → l ≡ 8 * k + j → At rows k row
     → get_or (family_bytes rows ++ rest) l 0 ≡ get_or (row_bytes row) j 0
 unfolding family_bytes
-get_d_family_bytes = get_d_blocks 8 row_bytes family_bytes (λ row. refl) refl (λ row rows. refl)
+get_or_family_bytes = get_or_blocks 8 row_bytes family_bytes (λ row. refl) refl (λ row rows. refl)
 
 module _ {row : Row} {rows : List Row} {k : ℕ} (lent : List ℕ) (a : At rows k row) where
   row_byte : (j l : ℕ) → j < 8 → l ≡ 8 * k + j → byte (over (family_bytes rows) lent) l ≡ get_or (row_bytes row) j 0
   unfolding over
-  row_byte j l h e = get_d_family_bytes j l (drop (length (family_bytes rows)) lent) h e a
+  row_byte j l h e = get_or_family_bytes j l (drop (length (family_bytes rows)) lent) h e a
 
   -- Row k of the buffer names the family of row k.
   pub family_at_row : family_at (over (family_bytes rows) lent) k ≡ row.family
@@ -86,15 +86,15 @@ unfolding class_bytes
 length_class_bytes = length_blocks 5 class_row_bytes class_bytes (λ row. refl) refl (λ row rows. refl)
 
 -- Byte j of class row g.
-pub get_d_class_bytes : {row : ClassRow} {rows : List ClassRow} {g : ℕ} (j l : ℕ) (rest : List ℕ) → j < 5 → l ≡ 5 * g + j → At rows g row
+pub get_or_class_bytes : {row : ClassRow} {rows : List ClassRow} {g : ℕ} (j l : ℕ) (rest : List ℕ) → j < 5 → l ≡ 5 * g + j → At rows g row
     → get_or (class_bytes rows ++ rest) l 0 ≡ get_or (class_row_bytes row) j 0
 unfolding class_bytes
-get_d_class_bytes = get_d_blocks 5 class_row_bytes class_bytes (λ row. refl) refl (λ row rows. refl)
+get_or_class_bytes = get_or_blocks 5 class_row_bytes class_bytes (λ row. refl) refl (λ row rows. refl)
 
 module _ {row : ClassRow} {rows : List ClassRow} {g : ℕ} (lent : List ℕ) (a : At rows g row) where
   class_byte : (j l : ℕ) → j < 5 → l ≡ 5 * g + j → byte (over (class_bytes rows) lent) l ≡ get_or (class_row_bytes row) j 0
   unfolding over
-  class_byte j l h e = get_d_class_bytes j l (drop (length (class_bytes rows)) lent) h e a
+  class_byte j l h e = get_or_class_bytes j l (drop (length (class_bytes rows)) lent) h e a
 
   -- Class row g of the buffer has the length of class row g.
   pub long_at_row : long_at (over (class_bytes rows) lent) g ≡ row.long

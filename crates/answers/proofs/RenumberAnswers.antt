@@ -78,11 +78,11 @@ module _ {n : ℕ} {bonds rows class_rows : List ℕ} {i cyclomatic families cla
       ))
 
 -- Two calls, each with its own row number and lent buffers, and the compound of the second is that of the first numbered anew.
-module _ {n n₂ : ℕ} {bonds bonds₂ rows rows₂ class_rows classRows₂ : List ℕ} {i i₂ cyclomatic cyclomatic₂ families families₂ : ℕ}
+module _ {n n₂ : ℕ} {bonds bonds₂ rows rows₂ class_rows class_rows₂ : List ℕ} {i i₂ cyclomatic cyclomatic₂ families families₂ : ℕ}
     {classes classes₂ whole whole₂ rings rings₂ size size₂ : ℕ} {left left₂ left' left'₂ : List ℕ}
     (r : Renumbered (record { n = n; bytes = bonds }) (record { n = n₂; bytes = bonds₂ }))
     (answer : Answered n bonds rows class_rows i (full cyclomatic families classes whole rings size) left left')
-    (answer₂ : Answered n₂ bonds₂ rows₂ classRows₂ i₂ (full cyclomatic₂ families₂ classes₂ whole₂ rings₂ size₂) left₂ left'₂) where
+    (answer₂ : Answered n₂ bonds₂ rows₂ class_rows₂ i₂ (full cyclomatic₂ families₂ classes₂ whole₂ rings₂ size₂) left₂ left'₂) where
   -- "the total"
   pub full_total_renumbered : whole ≡ whole₂
   full_total_renumbered =

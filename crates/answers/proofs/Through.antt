@@ -7,7 +7,7 @@ use native.Mathlib.Omega.{arith}
 use lib.ListN.{length, get_or, drop}
 use lib.Seq.{get_or-drop}
 use Rattle.bondset.specs.Bytes.{byte_of, bytes_of}
-use Rattle.bondset.proofs.Bytes.{length_bytes_of, get_d_bytes_of, of_first_byte_of}
+use Rattle.bondset.proofs.Bytes.{length_bytes_of, get_or_bytes_of, of_first_byte_of}
 use Rattle.cycles.specs.Compound.{Compound, m, Sound}
 use Rattle.cycles.specs.Rows.{At, Report, Right, most}
 use Rattle.cycles.specs.Through.{sum_to, lengths_times_sizes, BondEntries, AtomEntries, BondCounts, AtomCounts}
@@ -16,7 +16,7 @@ use Rattle.cycles.proofs.Exact.{exactly_at}
 use Rattle.cycles.proofs.ThroughRows.{bond_entries_sum, atom_entries_sum, entry_fits}
 use Rattle.answers.specs.Answered.{over}
 use Rattle.answers.specs.Through.{count_bytes, entry_at}
-use Rattle.answers.proofs.Places.{length_blocks, get_d_blocks}
+use Rattle.answers.proofs.Places.{length_blocks, get_or_blocks}
 
 at_get_d : {es : List ℕ} {k x : ℕ} → At es k x → get_or es k 0 ≡ x
 at_get_d At.here = refl
@@ -35,8 +35,8 @@ module _ (es lent : List ℕ) where
   unfolding over count_bytes
   entry_byte {k} {x} j a h =
       get_or-drop (8 * k) left j 0
-      ∙ get_d_blocks 8 (bytes_of 8) count_bytes (length_bytes_of 8) refl (λ x xs. refl) j (8 * k + j) (drop (length (count_bytes es)) lent) h refl a
-      ∙ get_d_bytes_of 8 x j h
+      ∙ get_or_blocks 8 (bytes_of 8) count_bytes (length_bytes_of 8) refl (λ x xs. refl) j (8 * k + j) (drop (length (count_bytes es)) lent) h refl a
+      ∙ get_or_bytes_of 8 x j h
 
   -- An entry that fits is read back.
   pub entry_read : (k : ℕ) → k < length es → get_or es k 0 < 2 ^ 64 → entry_at left k ≡ get_or es k 0

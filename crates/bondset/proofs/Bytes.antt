@@ -28,11 +28,11 @@ unfolding bytes_of
 length_bytes_of zero s = refl
 length_bytes_of (suc n) s = simp length-append (omega (arith, length_bytes_of n s))
 
-pub get_d_bytes_of : (n s j : ℕ) → j < n → get_or (bytes_of n s) j 0 ≡ byte_of s j
+pub get_or_bytes_of : (n s j : ℕ) → j < n → get_or (bytes_of n s) j 0 ≡ byte_of s j
 unfolding bytes_of
-get_d_bytes_of zero s j h = absurd (omega arith)
-get_d_bytes_of (suc n) s j h =
-    ⊎_elim (λ (l : j < n). get_or-append (bytes_of n s) (byte_of s n ∷ []) 0 j (rw length_bytes_of l) ∙ get_d_bytes_of n s j l)
+get_or_bytes_of zero s j h = absurd (omega arith)
+get_or_bytes_of (suc n) s j h =
+    ⊎_elim (λ (l : j < n). get_or-append (bytes_of n s) (byte_of s n ∷ []) 0 j (rw length_bytes_of l) ∙ get_or_bytes_of n s j l)
     (λ (l : n ≤ j). let e : j ≡ n = omega arith in rw e (get_or_at (bytes_of n s) (byte_of s n) [] 0 n (length_bytes_of n s))) (lt_or_ge j n)
 
 -- bytes that are those of a set stand for it
@@ -45,7 +45,7 @@ of_first_byte_of (suc n) s bs h =
 
 -- the 12 bytes of a set of 96 bonds give it back
 pub of_bytes_bytes_of : (s : ℕ) → s < 2 ^ 96 → of_bytes (bytes_of 12 s) ≡ s
-of_bytes_bytes_of s h = of_first_byte_of 12 s (bytes_of 12 s) (get_d_bytes_of 12 s) ∙ mod-eq_of_lt h
+of_bytes_bytes_of s h = of_first_byte_of 12 s (bytes_of 12 s) (get_or_bytes_of 12 s) ∙ mod-eq_of_lt h
 
 -- a byte over n bytes makes n + 1 bytes
 byte_over : (n r b : ℕ) → r < 2 ^ (8 * n) → b < 256 → b * 2 ^ (8 * n) + r < 2 ^ (8 * suc n)
@@ -72,7 +72,7 @@ byte_of_of_first (suc n) bs h j l =
 pub bytes_of_of_bytes : (bs : List ℕ) → length bs ≡ 12 → ((j : ℕ) → j < 12 → get_or bs j 0 < 256) → bytes_of 12 (of_bytes bs) ≡ bs
 bytes_of_of_bytes bs e h =
     ext_get_or 0 (bytes_of 12 (of_bytes bs)) bs (length_bytes_of 12 (of_bytes bs) ∙ sym e)
-    (λ i l. let p : i < 12 = rw length_bytes_of at l in get_d_bytes_of 12 (of_bytes bs) i p ∙ byte_of_of_first 12 bs h i p)
+    (λ i l. let p : i < 12 = rw length_bytes_of at l in get_or_bytes_of 12 (of_bytes bs) i p ∙ byte_of_of_first 12 bs h i p)
 
 -- the bytes in two parts, each of which stands for a word
 pub of_first_split : (m n : ℕ) (bs : List ℕ) → of_first (m + n) bs ≡ of_first m (drop n bs) * 2 ^ (8 * n) + of_first n bs
@@ -95,7 +95,7 @@ word_lt j w b h l = rw (add-one, add_comm w (b * 2 ^ (8 * j))) (byte_over j w b 
 pub write_byte : (d e : List ℕ) (s j b : ℕ) → e ≡ paste d 0 (bytes_of 12 s) j → j < length d → j < 12 → b ≡ byte_of s j
     → set e j b ≡ paste d 0 (bytes_of 12 s) (j + 1)
 write_byte d e s j b p hd h q =
-    ap₂ (λ (l : List ℕ) (x : ℕ). set l j x) p (q ∙ sym (get_d_bytes_of 12 s j h))
+    ap₂ (λ (l : List ℕ) (x : ℕ). set l j x) p (q ∙ sym (get_or_bytes_of 12 s j h))
     ∙ ap (λ (k : ℕ). set (paste d 0 (bytes_of 12 s) j) k (get_or (bytes_of 12 s) j 0)) (sym (zero-add j))
     ∙ paste-suc d 0 (bytes_of 12 s) j 0 (omega (arith, zero-add j)) (rw length_bytes_of h)
     ∙ ap (paste d 0 (bytes_of 12 s)) (sym (add-one j))

@@ -305,7 +305,7 @@ pub indexed_push : {rows pivots place rows' pivots' place' : List ℕ} {fresh la
     → 2 * (n + 1) ≤ length rows → n + 1 ≤ length pivots → 128 ≤ length place → n < 128 → rest < 2 ^ 128
     → Indexed rows pivots place fresh late all n → (rest ≡ 0 → ⊥) → ((i : ℕ) → i < n → bit rest (get_or pivots i 0) ≡ 0)
     → Indexed rows' pivots' place' fresh' late' all' (n + 1)
-indexed_push {rows} {pivots} {place} {rows'} {pivots'} {place'} {fresh} {late} {all} {n} {rest} {fresh'} {late'} {all'} stored p rows_fit pivots_fit placeFit few fits ix some lacks =
+indexed_push {rows} {pivots} {place} {rows'} {pivots'} {place'} {fresh} {late} {all} {n} {rest} {fresh'} {late'} {all'} stored p rows_fit pivots_fit place_fit few fits ix some lacks =
     go (both (eqb (new_in all rest) 0))
   where
     go : (eqb (new_in all rest) 0 ≡ true) ⊎ (eqb (new_in all rest) 0 ≡ false) → Indexed rows' pivots' place' fresh' late' all' (n + 1)

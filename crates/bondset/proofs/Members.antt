@@ -39,20 +39,20 @@ mem_of_bit (suc n) s k h e =
     last : (b : ℕ) → k ≡ n → b ≡ 1 → k ∈ if_set b n
     last b q e = rw (e, q) first
 
-∈-ifSet-eq : (b : ℕ) {x k : ℕ} → x ∈ if_set b k → x ≡ k
-∈-ifSet-eq zero x3 = elim x3 [ ]
-∈-ifSet-eq (suc b) (later x7) = elim x7 [ ]
-∈-ifSet-eq (suc b) first = refl
+∈_if_set_eq : (b : ℕ) {x k : ℕ} → x ∈ if_set b k → x ≡ k
+∈_if_set_eq zero x3 = elim x3 [ ]
+∈_if_set_eq (suc b) (later x7) = elim x7 [ ]
+∈_if_set_eq (suc b) first = refl
 
-∈-ifSet-pos : (b k : ℕ) {x : ℕ} → x ∈ if_set b k → 0 < b
-∈-ifSet-pos zero k m = elim m [ ]
-∈-ifSet-pos (suc b) k m = omega arith
+∈_if_set_pos : (b k : ℕ) {x : ℕ} → x ∈ if_set b k → 0 < b
+∈_if_set_pos zero k m = elim m [ ]
+∈_if_set_pos (suc b) k m = omega arith
 
 pub lt_of_mem : (n s k : ℕ) → k ∈ members n s → k < n
 unfolding members
 lt_of_mem zero s k m = elim m [ ]
 lt_of_mem (suc n) s k m =
-    ⊎_elim (λ (l : k ∈ members n s). omega (arith, lt_of_mem n s k l)) (λ (l : k ∈ if_set (bit s n) n). omega (arith, ∈-ifSet-eq (bit s n) l))
+    ⊎_elim (λ (l : k ∈ members n s). omega (arith, lt_of_mem n s k l)) (λ (l : k ∈ if_set (bit s n) n). omega (arith, ∈_if_set_eq (bit s n) l))
     (in_append (members n s) (if_set (bit s n) n) m)
 
 pub bit_of_mem : (n s k : ℕ) → k ∈ members n s → bit s k ≡ 1
@@ -60,7 +60,7 @@ unfolding members
 bit_of_mem zero s k m = elim m [ ]
 bit_of_mem (suc n) s k m =
     ⊎_elim (λ (l : k ∈ members n s). bit_of_mem n s k l)
-    (λ (l : k ∈ if_set (bit s n) n). rw (∈-ifSet-eq (bit s n) l) (omega (arith, ∈-ifSet-pos (bit s n) n l, bit_lt s n)))
+    (λ (l : k ∈ if_set (bit s n) n). rw (∈_if_set_eq (bit s n) l) (omega (arith, ∈_if_set_pos (bit s n) n l, bit_lt s n)))
     (in_append (members n s) (if_set (bit s n) n) m)
 
 -- the members are those below n whose bit is 1
@@ -70,7 +70,7 @@ mem_members n s k = (λ m. (lt_of_mem n s k m, bit_of_mem n s k m), λ p. mem_of
 ascending_append : {xs : List ℕ} (k : ℕ) → Climbs xs → ((x : ℕ) → x ∈ xs → x < k) → Climbs (xs ++ (k ∷ []))
 ascending_append k none h = next {x = k} {xs = []} (λ y. elim [ ]) none
 ascending_append k (next {x} {xs} lt a) h =
-    next (λ y m. ⊎_elim (λ (l : y ∈ xs). lt y l) (λ (l : y ∈ if_set 1 k). omega (arith, ∈-ifSet-eq 1 l, h x first)) (in_append xs (k ∷ []) m))
+    next (λ y m. ⊎_elim (λ (l : y ∈ xs). lt y l) (λ (l : y ∈ if_set 1 k). omega (arith, ∈_if_set_eq 1 l, h x first)) (in_append xs (k ∷ []) m))
     (ascending_append k a (λ y m. h y (later m)))
 
 pub members_climb : (n s : ℕ) → Climbs (members n s)

@@ -7,7 +7,7 @@
 
 ghost use Rattle.std.specs.Prelude.{◌≡◌, cond, ◌*◌, ◌/◌, ◌<◌, ◌≤◌, ltb, get_or};
 ghost use Rattle.bondset.specs.Sets.{bit};
-ghost use Rattle.model.specs.Loops.{seek as seekOf};
+ghost use Rattle.model.specs.Loops.{seek as seek_of};
 ghost use Rattle.rows.specs.Values.{family_of, Small};
 ghost use Rattle.ledger.specs.Held.{Sized, Fit};
 ghost use Rattle.candidates.specs.Engine.{put_size, attempted};
@@ -136,7 +136,7 @@ pub fn seek(
     requires place { Place adj.now touch.now layers.now counts.old (k / 2) }
     requires sized { Sized rows.old tags.old pivots.old place.old s.tally.index s.tally.marks }
     requires fit { Fit labels.old holds.old s.tally }
-    ensures { Tries (seekOf (graph n adj.now touch.now) (attempted (graph n adj.now touch.now) from)
+    ensures { Tries (seek_of (graph n adj.now touch.now) (attempted (graph n adj.now touch.now) from)
         k r layers.now) s
         rows.old tags.old pivots.old labels.old holds.old out.old sizes.old
         result rows.new tags.new pivots.new labels.new holds.new out.new sizes.new place.new }

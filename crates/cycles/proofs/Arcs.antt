@@ -13,7 +13,7 @@ use Rattle.graphs.specs.Ring.{Cycle, cset, Relevant as RelevantIn}
 use Rattle.graphs.specs.Walk.{Steps, end, go, edges, IsWalk, Distinct, last, len as steps}
 use Rattle.graphs.specs.AtomList.{last_l}
 use Rattle.graphs.proofs.Arcs.{RelevantFrom, relevant_from}
-use Rattle.graphs.proofs.AtomList.{atoms, atoms_len, get_d_atoms, last_l_atoms}
+use Rattle.graphs.proofs.AtomList.{atoms, atoms_len, get_or_atoms, last_l_atoms}
 use Rattle.graphs.proofs.Basics.{clash}
 use Rattle.graphs.proofs.Count.{cnt_ext}
 use Rattle.graphs.proofs.Cycle.{cycle_size}
@@ -123,7 +123,7 @@ module _ (c : Compound) (sound : Sound c) where
         three = omega (arith, (atoms_cycle G (simple c sound) O).three);
         far = λ i l.
             let h : i ≤ steps p = omega (arith, atoms_len p) in
-            rw (F.ring.start, get_d_atoms r p i h, long) (graph_distance c (F.far i h));
+            rw (F.ring.start, get_or_atoms r p i h, long) (graph_distance c (F.far i h));
       }
 
   -- A relevant ring, told from any atom that it meets.

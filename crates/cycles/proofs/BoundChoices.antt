@@ -116,15 +116,15 @@ module _ (c : Compound) (sound : Sound c) where
   module _ (rank : ℕ → ℕ) where
     -- Every candidate has a link.
     candidate_linked : {f : Family} {d : ℕ} {link : List ℕ} → Candidate c rank f d link → (i : ℕ) × (j : ℕ) × (i < m c) × (j < m c) × Linked f f.r i j
-    candidate_linked (Candidate.odd {d = d} less (k, u) underP underQ long) =
+    candidate_linked (Candidate.odd {d = d} less (k, u) under_p under_q long) =
         let h = joins_below c u in
-        (k, k, h, h, record { top = refl; less = less; d = d; far = down_far c rank underP.1.1; link = Link.odd u refl refl long })
-    candidate_linked (Candidate.even {d = d} less (i, u) (j, v) underX underP underQ long) = (
+        (k, k, h, h, record { top = refl; less = less; d = d; far = down_far c rank under_p.1.1; link = Link.odd u refl refl long })
+    candidate_linked (Candidate.even {d = d} less (i, u) (j, v) under_x under_p under_q long) = (
       i,
       j,
       joins_below c u,
       joins_below c v,
-      record { top = refl; less = less; d = d; far = down_far c rank underP.1.1; link = Link.even u v long },
+      record { top = refl; less = less; d = d; far = down_far c rank under_p.1.1; link = Link.even u v long },
     )
 
     module _ (atoms : c.n ≤ 64) (bonds : m c ≤ 96) where

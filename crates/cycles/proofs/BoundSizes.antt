@@ -66,8 +66,8 @@ module _ (c : Compound) (sound : Sound c) (rank : ℕ → ℕ) where
 
   -- A candidate's r is an atom of the compound.
   pub candidate_top : {f : Family} {d : ℕ} {link : List ℕ} → Candidate c rank f d link → f.r < c.n
-  candidate_top (Candidate.odd less bond underP underQ long) = top_named underP.1.1 underP.0
-  candidate_top (Candidate.even less bondP bondQ underX underP underQ long) = top_named underP.1.1 underP.0
+  candidate_top (Candidate.odd less bond under_p under_q long) = top_named under_p.1.1 under_p.0
+  candidate_top (Candidate.even less bond_p bond_q under_x under_p under_q long) = top_named under_p.1.1 under_p.0
 
   -- All paths of d steps to r through these atoms, and few they are.
   record Cover (r d : ℕ) (atoms : List ℕ) : Type 0 where
@@ -135,7 +135,7 @@ module _ (c : Compound) (sound : Sound c) (rank : ℕ → ℕ) (injective : (a b
 
   -- Given all atoms but r, those on the members' paths from p, and the others:
   module _ {atoms ins outs : List ℕ} (but-top : (a : ℕ) → a < c.n → (a ≡ f.r → ⊥) → a ∈ atoms)
-      (sideP : Sift (λ a. a ∈ gather size.members path_p) atoms ins) (sideQ : Sift (λ a. ¬ (a ∈ gather size.members path_p)) atoms outs) where
+      (side_p : Sift (λ a. a ∈ gather size.members path_p) atoms ins) (side_q : Sift (λ a. ¬ (a ∈ gather size.members path_p)) atoms outs) where
     on_path : {t a : ℕ} {P : List ℕ} → Down c rank f.r t d P → a ∈ P → (a ≡ f.r → ⊥) → a ∈ atoms
     on_path {a = a} down h other = but-top a (down_named c sound rank down h other) other
 
@@ -150,8 +150,8 @@ module _ (c : Compound) (sound : Sound c) (rank : ℕ → ℕ) (injective : (a b
               (λ C h. (
                 duo (path_p C h) (path_q C h),
                 in_both duo
-                    (v.all (member_makes h).down_p (λ a p other. sift_in sideP (on_path (member_makes h).down_p p other) (gather_has path_p h p)))
-                    (w.all (member_makes h).down_q (λ a q other. sift_in sideQ (on_path (member_makes h).down_q q other) (paths_apart h q other))),
+                    (v.all (member_makes h).down_p (λ a p other. sift_in side_p (on_path (member_makes h).down_p p other) (gather_has path_p h p)))
+                    (w.all (member_makes h).down_q (λ a q other. sift_in side_q (on_path (member_makes h).down_q q other) (paths_apart h q other))),
                 member_makes h,
               )),
         )
@@ -162,7 +162,7 @@ module _ (c : Compound) (sound : Sound c) (rank : ℕ → ℕ) (injective : (a b
         let v = cover c sound rank f.r d ins in
         let w = cover c sound rank f.r d outs in
         let h = cube_product (length v.paths) (length w.paths) (length ins) (length outs) v.few w.few in
-        rw (sift_count sideP sideQ) at (le_trans (cube_mono (size_le_pairs v w)) h)
+        rw (sift_count side_p side_q) at (le_trans (cube_mono (size_le_pairs v w)) h)
 
   -- "A family has at most 3^21 = 10,460,353,203 members."
   pub size_bound : c.n ≤ 64 → s ≤ 3 ^ 21

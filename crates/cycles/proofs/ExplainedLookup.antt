@@ -95,21 +95,21 @@ module _ (c : Compound) (sound : Sound c) (rank : ℕ → ℕ) where
 
     even_same : {d : ℕ} → f.long ≡ 2 * suc d → 0 < degree c C f.x → Distance c f.x f.r (suc d) → Distance c f.p f.r d
         → Distance c f.q f.r d → Middle c sound rank g C e → f ≡ g
-    even_same l meetsX farX far_p far_q (Middle.odd l' x') = absurd (omega arith)
-    even_same {d} l meetsX farX far_p far_q (Middle.even l' meets far only) =
+    even_same l meets_x far_x far_p far_q (Middle.odd l' x') = absurd (omega arith)
+    even_same {d} l meets_x far_x far_p far_q (Middle.even l' meets far only) =
         let h : d ≡ e = omega arith in
-        ends_same h far_p far_q (only f.x meetsX (far_at (ap suc h) farX))
+        ends_same h far_p far_q (only f.x meets_x (far_at (ap suc h) far_x))
 
   linked_same : {f g : Family} {C d e : ℕ} {link : List ℕ} → Candidate c rank f d link → Linked c f C → Corners c sound rank g C e
       → f.long ≡ g.long → f.r ≡ g.r → f ≡ g
-  linked_same (Candidate.odd less bond underP underQ l) (Linked.odd o h) t long top =
-      odd_same _ t long top less (bond_meets c h) (bond_meets c (bond_turned c h)) l refl (down_far c rank underP.1.1) (down_far c rank underQ.1.1)
+  linked_same (Candidate.odd less bond under_p under_q l) (Linked.odd o h) t long top =
+      odd_same _ t long top less (bond_meets c h) (bond_meets c (bond_turned c h)) l refl (down_far c rank under_p.1.1) (down_far c rank under_q.1.1)
       t.middle
-  linked_same (Candidate.odd less bond underP underQ l) (Linked.even o h g) t long top = absurd (omega arith)
-  linked_same (Candidate.even less bondP bondQ underX underP underQ l) (Linked.odd o h) t long top = absurd (omega arith)
-  linked_same (Candidate.even less bondP bondQ underX underP underQ l) (Linked.even o h g) t long top =
-      even_same _ t long top less (bond_meets c h) (bond_meets c (bond_turned c g)) l (bond_meets c g) (down_far c rank underX.1.1)
-      (down_far c rank underP.1.1) (down_far c rank underQ.1.1) t.middle
+  linked_same (Candidate.odd less bond under_p under_q l) (Linked.even o h g) t long top = absurd (omega arith)
+  linked_same (Candidate.even less bond_p bond_q under_x under_p under_q l) (Linked.odd o h) t long top = absurd (omega arith)
+  linked_same (Candidate.even less bond_p bond_q under_x under_p under_q l) (Linked.even o h g) t long top =
+      even_same _ t long top less (bond_meets c h) (bond_meets c (bond_turned c g)) l (bond_meets c g) (down_far c rank under_x.1.1)
+      (down_far c rank under_p.1.1) (down_far c rank under_q.1.1) t.middle
 
   top_same : {f g : Family} {C e : ℕ} → Matches c rank f C → Corners c sound rank g C e → f.r ≡ g.r
   top_same {f} {g} s t =
@@ -132,9 +132,9 @@ module _ (c : Compound) (sound : Sound c) (rank : ℕ → ℕ) where
   bonded_differ {k} {b} j e = sound.no_loop k b (subst (λ (x : ℕ). Joins c k x b) e j)
 
   link_once : {f : Family} {d : ℕ} {link : List ℕ} → Candidate c rank f d link → Once link
-  link_once (Candidate.odd less bond underP underQ l) = once_two (λ e. omega arith)
-  link_once (Candidate.even {p = p} {q = q} less bondP bondQ underX underP underQ l) =
-      Once.more (not_of_two (bonded_differ bondP.1) (λ (e : p ≡ q). omega arith)) (once_two (bonded_differ bondQ.1))
+  link_once (Candidate.odd less bond under_p under_q l) = once_two (λ e. omega arith)
+  link_once (Candidate.even {p = p} {q = q} less bond_p bond_q under_x under_p under_q l) =
+      Once.more (not_of_two (bonded_differ bond_p.1) (λ (e : p ≡ q). omega arith)) (once_two (bonded_differ bond_q.1))
 
   -- The bonds of the link are bonds of what is made up with it.
   link_held : {f : Family} {d C k : ℕ} {link P Q : List ℕ} → Made c sound rank f d link P Q C → ((a : ℕ) → a ∈ P → a ∈ Q → a ≡ f.r) → Uses c k link
@@ -164,8 +164,8 @@ module _ (c : Compound) (sound : Sound c) (rank : ℕ → ℕ) where
       on = uses_held c sound s.made.edges_link (link_once s.candidate) u
 
   linked_by : {f : Family} {d C : ℕ} {link : List ℕ} → Candidate c rank f d link → ((k : ℕ) → Uses c k link → bit C k ≡ 1) → Linked c f C
-  linked_by (Candidate.odd less (k, j) underP underQ l) held = Linked.odd (omega arith) (record { bond = k; joins = j; held = held k (Uses.here j) })
-  linked_by (Candidate.even less (i, p) (j, q) underX underP underQ l) held =
+  linked_by (Candidate.odd less (k, j) under_p under_q l) held = Linked.odd (omega arith) (record { bond = k; joins = j; held = held k (Uses.here j) })
+  linked_by (Candidate.even less (i, p) (j, q) under_x under_p under_q l) held =
       Linked.even (omega arith) (record { bond = i; joins = p; held = held i (Uses.here p) })
       (record { bond = j; joins = q; held = held j (Uses.later (Uses.here q)) })
 
@@ -184,8 +184,8 @@ module _ (c : Compound) (sound : Sound c) (rank : ℕ → ℕ) where
   -- In a compound of at most 255 atoms the x of a candidate, 255 or not, says whether its length is odd.
   pub candidate_x : {f : Family} {d : ℕ} {link : List ℕ} → c.n ≤ 255 → Candidate c rank f d link
       → ((f.x ≡ 255) × (f.long % 2 ≡ 1)) ⊎ ((f.x < 255) × (f.long % 2 ≡ 0))
-  candidate_x few (Candidate.odd less bond underP underQ l) = inl (refl, omega arith)
-  candidate_x few (Candidate.even {x = x} less bondP (k, j) underX underP underQ l) =
+  candidate_x few (Candidate.odd less bond under_p under_q l) = inl (refl, omega arith)
+  candidate_x few (Candidate.even {x = x} less bond_p (k, j) under_x under_p under_q l) =
       let h = sound.named k x _ j in inr (omega arith, omega arith)
 
   module _ (injective : (a b : ℕ) → a < c.n → b < c.n → rank a ≡ rank b → a ≡ b) where

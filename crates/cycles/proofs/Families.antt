@@ -69,9 +69,9 @@ module _ (c : Compound) (sound : Sound c) (rank : ℕ → ℕ) where
     pub made : MadeOf c rank P Q link S
 
   link_edges : {f : Family} {d : ℕ} {link : List ℕ} → Candidate c rank f d link → (S : ℕ) × Edges c link S
-  link_edges (Candidate.odd less bond underP underQ long) = (_, Edges.more bond.1 Edges.point refl)
-  link_edges (Candidate.even less bondP bondQ underX underP underQ long) =
-      (_, Edges.more bondP.1 (Edges.more bondQ.1 Edges.point refl) refl)
+  link_edges (Candidate.odd less bond under_p under_q long) = (_, Edges.more bond.1 Edges.point refl)
+  link_edges (Candidate.even less bond_p bond_q under_x under_p under_q long) =
+      (_, Edges.more bond_p.1 (Edges.more bond_q.1 Edges.point refl) refl)
 
   pub made_exists : {f : Family} {d : ℕ} {link P Q : List ℕ} → Candidate c rank f d link → Down c rank f.r f.p d P
       → Down c rank f.r f.q d Q → (S : ℕ) × Made f d link P Q S
@@ -108,13 +108,13 @@ module _ (c : Compound) (sound : Sound c) (rank : ℕ → ℕ) where
     long : f.long ≡ 2 * d + steps
 
   link_way : {f : Family} {d S : ℕ} {link : List ℕ} → Candidate c rank f d link → Edges c link S → LinkWay f d S
-  link_way (Candidate.odd {q = q} less bond underP underQ long) edges = record {
+  link_way (Candidate.odd {q = q} less bond under_p under_q long) edges = record {
     steps = 1;
     way = record { path = q ∷ []; edges = edges; ends = refl; steps = refl };
     some = omega arith;
     long = long;
   }
-  link_way (Candidate.even {q = q} {x = x} less bondP bondQ underX underP underQ long) edges = record {
+  link_way (Candidate.even {q = q} {x = x} less bond_p bond_q under_x under_p under_q long) edges = record {
     steps = 2;
     way = record { path = x ∷ q ∷ []; edges = edges; ends = refl; steps = refl };
     some = omega arith;
@@ -160,7 +160,7 @@ module _ (c : Compound) (sound : Sound c) (rank : ℕ → ℕ) where
     pub precede : (a : ℕ) → 0 < degree c S a → (a ≡ f.r) ⊎ Precedes c rank a f.r
 
   module _ (f : Family) (link P Q acc : List ℕ) (held : (a : ℕ) → a ∈ P → a ∈ acc) (only : (a : ℕ) → a ∈ acc → (a ∈ P) ⊎ (a ∈ link))
-      (linked : (a : ℕ) → a ∈ link → (a ∈ Q) ⊎ (a ∈ acc)) (precedeQ : (a : ℕ) → a ∈ Q → (a ≡ f.r) ⊎ Precedes c rank a f.r)
+      (linked : (a : ℕ) → a ∈ link → (a ∈ Q) ⊎ (a ∈ acc)) (precede_q : (a : ℕ) → a ∈ Q → (a ≡ f.r) ⊎ Precedes c rank a f.r)
       (precede : (a : ℕ) → a ∈ acc → (a ≡ f.r) ⊎ Precedes c rank a f.r) where
     wound_ring : {d S : ℕ} → Wound c rank sound d Q acc S → length acc + d ≡ f.long → MadeRing f link P Q S
     wound_ring {S} w long = record {
@@ -170,7 +170,7 @@ module _ (c : Compound) (sound : Sound c) (rank : ℕ → ℕ) where
       has_P = λ a h. met a (w.has_acc a (held a h));
       has_Q = λ a h. met a (w.has_Q a h);
       has_link = λ a h. met a (⊎_elim (w.has_Q a) (w.has_acc a) (linked a h));
-      precede = λ a h. ⊎_elim (precedeQ a) (precede a) (side a h);
+      precede = λ a h. ⊎_elim (precede_q a) (precede a) (side a h);
     }
       where
         met : (a : ℕ) → a ∈ w.atoms → 0 < degree c S a
@@ -203,9 +203,9 @@ module _ (c : Compound) (sound : Sound c) (rank : ℕ → ℕ) where
   apart_closed : {f : Family} {d S T U L : ℕ} {link P Q : List ℕ} → Candidate c rank f d link → Down c rank f.r f.p d P
       → Down c rank f.r f.q d Q → Edges c P T → Edges c Q U → Edges c link L → S ≡ bit_xor (bit_xor T U) L
       → ((a : ℕ) → a ∈ P → a ∈ Q → a ≡ f.r) → MadeRing f link P Q S
-  apart_closed {T} {U} {P} {Q} (Candidate.odd {q = q} {d = d} {k = h} less bond underP underQ long) down_p down_q edges_p edges_q
+  apart_closed {T} {U} {P} {Q} (Candidate.odd {q = q} {d = d} {k = h} less bond under_p under_q long) down_p down_q edges_p edges_q
       (Edges.more {k} j Edges.point e) sum apart =
-      let some = down_some c rank down_q underQ.0 in
+      let some = down_some c rank down_q under_q.0 in
       let size = down_length c rank down_p in
       let w = wind c rank sound down_q some edges_q (down_more c rank down_p (joins_sym c j) edges_p) (down_last c rank q down_p)
       (down_once c rank down_p) (omega arith) (λ a h g. apart a g h) in
@@ -213,18 +213,18 @@ module _ (c : Compound) (sound : Sound c) (rank : ℕ → ℕ) where
       wound_ring _ _ P Q P (λ a h. h) (λ a h. inl h) (λ a h. in_odd (down_first c rank down_p) (down_first c rank down_q) h)
       (λ a. down_precede c rank down_q) (λ a. down_precede c rank down_p)
       (wound_at c rank sound (odd_sum (2 ^ k) T U sum e) w) total
-  apart_closed {T} {U} {P} {Q} (Candidate.even {q = q} {x = x} {d = d} {k = h} less bondP bondQ underX underP underQ long) down_p down_q
-      edges_p edges_q (Edges.more {k = i} jP (Edges.more {k = j} jQ Edges.point e) e') sum apart =
-      let some = down_some c rank down_q underQ.0 in
+  apart_closed {T} {U} {P} {Q} (Candidate.even {q = q} {x = x} {d = d} {k = h} less bond_p bond_q under_x under_p under_q long) down_p down_q
+      edges_p edges_q (Edges.more {k = i} j_p (Edges.more {k = j} j_q Edges.point e) e') sum apart =
+      let some = down_some c rank down_q under_q.0 in
       let size = down_length c rank down_p in
-      let far = down_far c rank underX.1.1 in
-      let w = wind c rank sound down_q some edges_q (Edges.more (joins_sym c jQ) (down_more c rank down_p (joins_sym c jP) edges_p) refl)
+      let far = down_far c rank under_x.1.1 in
+      let w = wind c rank sound down_q some edges_q (Edges.more (joins_sym c j_q) (down_more c rank down_p (joins_sym c j_p) edges_p) refl)
       (down_last c rank x down_p) (Once.more (down_near c rank down_p far (omega arith)) (down_once c rank down_p)) (omega arith)
       (apart_even (down_near c rank down_q far (omega arith)) apart) in
       let total : length (x ∷ P) + d ≡ h = omega arith in
       wound_ring _ _ P Q (x ∷ P) (λ a h. ◌∈◌.later h) (λ a h. from_even h)
       (λ a h. in_even (down_first c rank down_p) (down_first c rank down_q) h)
-      (λ a. down_precede c rank down_q) (λ a. precede_even underX.0 (down_precede c rank down_p))
+      (λ a. down_precede c rank down_q) (λ a. precede_even under_x.0 (down_precede c rank down_p))
       (wound_at c rank sound (even_sum (2 ^ i) (2 ^ j) T U sum e' e) w) total
 
   pub apart_ring : {f : Family} {d : ℕ} {link P Q : List ℕ} {S : ℕ} → Made f d link P Q S → ((a : ℕ) → a ∈ P → a ∈ Q → a ≡ f.r)
@@ -265,8 +265,8 @@ module _ (c : Compound) (sound : Sound c) (rank : ℕ → ℕ) where
     even : f.long ≡ 2 * suc d → link ≡ f.p ∷ f.x ∷ f.q ∷ [] → Shape f d link
 
   candidate_shape : {f : Family} {d : ℕ} {link : List ℕ} → Candidate c rank f d link → Shape f d link
-  candidate_shape (Candidate.odd less bond underP underQ long) = Shape.odd long refl
-  candidate_shape (Candidate.even less bondP bondQ underX underP underQ long) = Shape.even long refl
+  candidate_shape (Candidate.odd less bond under_p under_q long) = Shape.odd long refl
+  candidate_shape (Candidate.even less bond_p bond_q under_x under_p under_q long) = Shape.even long refl
 
   shape_unique : {f : Family} {d e : ℕ} {link link' : List ℕ} → Shape f d link → Shape f e link' → (d ≡ e) × (link ≡ link')
   shape_unique (Shape.odd l w) (Shape.odd l' w') = (omega arith, w ∙ sym w')
@@ -306,9 +306,9 @@ module _ (c : Compound) (sound : Sound c) (rank : ℕ → ℕ) where
 
   -- Of two rings of length k that differ by rings shorter than k both are relevant or none.
   relevant_other : {k C S : ℕ} → len c C ≡ k → len c S ≡ k → Ring c C → Shorter c k (bit_xor C S) → Relevant c S → Relevant c C
-  relevant_other {k} {C} {S} lenC lenS ring both relevant =
+  relevant_other {k} {C} {S} len_c len_s ring both relevant =
       not_shorter_relevant c ring (λ h. relevant_not_shorter c relevant
-      (subst (λ (n : ℕ). Shorter c n S) (sym lenS) (shorter_other both (subst (λ (n : ℕ). Shorter c n C) lenC h))))
+      (subst (λ (n : ℕ). Shorter c n S) (sym len_s) (shorter_other both (subst (λ (n : ℕ). Shorter c n C) len_c h))))
 
   -- Every member of a kept family is relevant.
   pub member_relevant : {f : Family} {C : ℕ} → Kept c rank f → Member c rank f C → Relevant c C

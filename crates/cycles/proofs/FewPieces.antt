@@ -23,10 +23,10 @@ use Rattle.cycles.proofs.Dimension.{Rooted, roots_to, closed_basis, dimension}
 use Rattle.cycles.proofs.Pieces.{rooted_exists}
 use Rattle.cycles.proofs.Few.{cyclomatic_few}
 
-get_d_map : (f : ℕ → ℕ) (xs : List ℕ) (i : ℕ) → i < length xs → get_or (map f xs) i 0 ≡ f (get_or xs i 0)
-get_d_map f [] i h = absurd (omega arith)
-get_d_map f (x ∷ xs) zero h = refl
-get_d_map f (x ∷ xs) (suc i) h = get_d_map f xs i (omega arith)
+get_or_map : (f : ℕ → ℕ) (xs : List ℕ) (i : ℕ) → i < length xs → get_or (map f xs) i 0 ≡ f (get_or xs i 0)
+get_or_map f [] i h = absurd (omega arith)
+get_or_map f (x ∷ xs) zero h = refl
+get_or_map f (x ∷ xs) (suc i) h = get_or_map f xs i (omega arith)
 
 module _ (root : ℕ → ℕ) where
   -- How many of the atoms below i are no roots.
@@ -100,7 +100,7 @@ module _ (c : Compound) (sound : Sound c) (root : ℕ → ℕ) (rooted : Rooted 
 
   ends_are : (k : ℕ) → k < m c → (one merged k ≡ merge root (one c k)) × (other merged k ≡ merge root (other c k))
   unfolding merged
-  ends_are k h = (get_d_map (merge root) c.bytes (2 * k) (omega arith), get_d_map (merge root) c.bytes (2 * k + 1) (omega arith))
+  ends_are k h = (get_or_map (merge root) c.bytes (2 * k) (omega arith), get_or_map (merge root) c.bytes (2 * k + 1) (omega arith))
 
   from : {k x y : ℕ} → Joins merged k x y → From k x y
   from {k} (Joins.given h e f) =

@@ -62,12 +62,12 @@ module _ (c : Compound) (sound : Sound c) where
 
   module _ (rank : ℕ → ℕ) where
     candidate_less : {f : Family} {d : ℕ} {link : List ℕ} → Candidate c rank f d link → f.p < f.q
-    candidate_less (Candidate.odd less bond underP underQ long) = less
-    candidate_less (Candidate.even less bondP bondQ underX underP underQ long) = less
+    candidate_less (Candidate.odd less bond under_p under_q long) = less
+    candidate_less (Candidate.even less bond_p bond_q under_x under_p under_q long) = less
 
     link_len : {f : Family} {d L : ℕ} {link : List ℕ} → Candidate c rank f d link → Edges c link L → len c L + 2 * d ≤ f.long
-    link_len (Candidate.odd less bond underP underQ long) edges = omega (arith, edges_length c edges)
-    link_len (Candidate.even less bondP bondQ underX underP underQ long) edges = omega (arith, edges_length c edges)
+    link_len (Candidate.odd less bond under_p under_q long) edges = omega (arith, edges_length c edges)
+    link_len (Candidate.even less bond_p bond_q under_x under_p under_q long) edges = omega (arith, edges_length c edges)
 
     -- No step leads to the first atom of a path.
     first_steps : {r t d a : ℕ} {P : List ℕ} → Down c rank r t d P → (k : Cut c rank r t a d P) → t ≡ a → k.i ≡ 0

@@ -115,14 +115,14 @@ module _ (c : Compound) (sound : Sound c) (rank : ℕ → ℕ) where
   module _ {r d C S T : ℕ} {P Q : List ℕ} where
     found_odd : {p q k : ℕ} → p < q → Joins c k p q → Precedes c rank p r → Precedes c rank q r → Down c rank r p d P → Down c rank r q d Q
         → Edges c P S → Edges c Q T → C ≡ bit_xor (bit_xor S T) (bit_xor (2 ^ k) 0) → len c C ≡ 2 * d + 1 → Found C
-    found_odd {p} {q} less j beforeP beforeQ down_p down_q edges_p edges_q sum long = record {
+    found_odd {p} {q} less j before_p before_q down_p down_q edges_p edges_q sum long = record {
       f = record { long = 2 * d + 1; r = r; p = p; q = q; x = 255 };
       d = d;
       link = p ∷ q ∷ [];
       P = P;
       Q = Q;
       made = record {
-        candidate = Candidate.odd less (_, j) (beforeP, (P, down_p)) (beforeQ, (Q, down_q)) refl;
+        candidate = Candidate.odd less (_, j) (before_p, (P, down_p)) (before_q, (Q, down_q)) refl;
         down_p = down_p;
         down_q = down_q;
         made = record { from_p = S; from_q = T; between = _; edges_p = edges_p; edges_q = edges_q; edges_link = Edges.more j Edges.point refl; sum = sum };
@@ -133,14 +133,14 @@ module _ (c : Compound) (sound : Sound c) (rank : ℕ → ℕ) where
     found_even : {p x q i j : ℕ} → p < q → Joins c i p x → Joins c j x q → Precedes c rank p r → Precedes c rank x r → Precedes c rank q r
         → {way : List ℕ} → Down c rank r x (suc d) way → Down c rank r p d P → Down c rank r q d Q → Edges c P S → Edges c Q T
         → C ≡ bit_xor (bit_xor S T) (bit_xor (2 ^ i) (bit_xor (2 ^ j) 0)) → len c C ≡ 2 * suc d → Found C
-    found_even {p} {x} {q} less i j beforeP beforeX beforeQ {way} downX down_p down_q edges_p edges_q sum long = record {
+    found_even {p} {x} {q} less i j before_p before_x before_q {way} down_x down_p down_q edges_p edges_q sum long = record {
       f = record { long = 2 * suc d; r = r; p = p; q = q; x = x };
       d = d;
       link = p ∷ x ∷ q ∷ [];
       P = P;
       Q = Q;
       made = record {
-        candidate = Candidate.even less (_, i) (_, j) (beforeX, (way, downX)) (beforeP, (P, down_p)) (beforeQ, (Q, down_q)) refl;
+        candidate = Candidate.even less (_, i) (_, j) (before_x, (way, down_x)) (before_p, (P, down_p)) (before_q, (Q, down_q)) refl;
         down_p = down_p;
         down_q = down_q;
         made = record {
@@ -264,29 +264,29 @@ module _ (c : Compound) (sound : Sound c) (rank : ℕ → ℕ) where
         let same : suc (length path) ≡ d = omega arith in
         let down_q = subst (λ (n : ℕ). Down c rank r q n below.path) same below.down in
         let total = odd_sum (2 ^ w.K) (2 ^ j) w.U S w.sum e refl in
-        let beforeP = down_before c rank w.down some in
-        let beforeQ = w.before q ◌∈◌.first in
+        let before_p = down_before c rank w.down some in
+        let before_q = w.before q ◌∈◌.first in
         let other = fresh_other w.once ◌∈◌.first in
-        ⊎_elim (λ less. found_odd less joins beforeP beforeQ w.down down_q w.edges below.edges total (size ∙ long))
-        (λ ge. found_odd (omega arith) (joins_sym c joins) beforeQ beforeP down_q w.down below.edges w.edges
+        ⊎_elim (λ less. found_odd less joins before_p before_q w.down down_q w.edges below.edges total (size ∙ long))
+        (λ ge. found_odd (omega arith) (joins_sym c joins) before_q before_p down_q w.down below.edges w.edges
         (turn_sum w.U (bit_xor (2 ^ w.K) S) (bit_xor (2 ^ j) 0) total) (size ∙ long)) (lt_or_ge t q)
 
     stand_even : {t W : ℕ} {rest : List ℕ} → k ≡ 2 * suc d → Edges c (t ∷ rest) W → Stand r k d C t W rest → Found C
     stand_even long Edges.point w = absurd (omega (arith, w.long))
     stand_even long (Edges.more joins Edges.point e) w = absurd (omega (arith, w.long))
-    stand_even {t} long (Edges.more {b = x} {k = i} to_x (Edges.more {b = q} {k = j} {S = S} {path = path} toQ edges e) e') w =
+    stand_even {t} long (Edges.more {b = x} {k = i} to_x (Edges.more {b = q} {k = j} {S = S} {path = path} to_q edges e) e') w =
         let count : suc (d + suc (suc (length path))) ≡ k = w.long in
         let below = descend edges w.closes (λ s n h g. w.fall (suc s) n (omega arith) (omega arith) (omega arith)) (λ a h. w.before a (◌∈◌.later h)) in
         let same : suc (length path) ≡ d = omega arith in
         let down_q = subst (λ (n : ℕ). Down c rank r q n below.path) same below.down in
         let total = even_sum (2 ^ w.K) (2 ^ i) (2 ^ j) w.U S w.sum e' e refl in
-        let beforeP = down_before c rank w.down some in
-        let beforeX = w.before x ◌∈◌.first in
-        let beforeQ = w.before q (◌∈◌.later ◌∈◌.first) in
-        let downX = Down.step beforeX (w.rise 0 (suc d) (omega arith) (omega arith) (omega arith)) (i, joins_sym c to_x) w.down in
+        let before_p = down_before c rank w.down some in
+        let before_x = w.before x ◌∈◌.first in
+        let before_q = w.before q (◌∈◌.later ◌∈◌.first) in
+        let down_x = Down.step before_x (w.rise 0 (suc d) (omega arith) (omega arith) (omega arith)) (i, joins_sym c to_x) w.down in
         let other = fresh_other w.once (◌∈◌.later ◌∈◌.first) in
-        ⊎_elim (λ less. found_even less to_x toQ beforeP beforeX beforeQ downX w.down down_q w.edges below.edges total (size ∙ long))
-        (λ ge. found_even (omega arith) (joins_sym c toQ) (joins_sym c to_x) beforeQ beforeX beforeP downX down_q w.down below.edges
+        ⊎_elim (λ less. found_even less to_x to_q before_p before_x before_q down_x w.down down_q w.edges below.edges total (size ∙ long))
+        (λ ge. found_even (omega arith) (joins_sym c to_q) (joins_sym c to_x) before_q before_x before_p down_x down_q w.down below.edges
         w.edges (turn_link w.U (bit_xor (2 ^ w.K) S) (2 ^ i) (2 ^ j) total) (size ∙ long)) (lt_or_ge t q)
 
   -- A ring told from the atom r, whose other atoms precede r, is what two paths down to r make up.

@@ -96,12 +96,12 @@ module _ (c : Compound) (sound : Sound c) (rank : ℕ → ℕ) where
 
   corners_of : {f : Family} {d C : ℕ} {link P Q : List ℕ} → Candidate c rank f d link → Down c rank f.r f.p d P
       → Down c rank f.r f.q d Q → MadeRing c sound rank f link P Q C → Corners f C d
-  corners_of (Candidate.odd less bond underP underQ long) down_p down_q w =
+  corners_of (Candidate.odd less bond under_p under_q long) down_p down_q w =
       corners_with down_p down_q w less (λ a h far. in_two h) (Middle.odd long refl)
-  corners_of (Candidate.even {x = x} less bondP bondQ underX underP underQ long) down_p down_q w =
-      let farX = down_far c rank underX.1.1 in
-      corners_with down_p down_q w less (λ a h far. ⊎_elim (λ e. absurd (omega (arith, far_same far farX e))) (λ e. e) (in_three h))
-      (Middle.even long (w.has_link x (◌∈◌.later ◌∈◌.first)) farX
+  corners_of (Candidate.even {x = x} less bond_p bond_q under_x under_p under_q long) down_p down_q w =
+      let far_x = down_far c rank under_x.1.1 in
+      corners_with down_p down_q w less (λ a h far. ⊎_elim (λ e. absurd (omega (arith, far_same far far_x e))) (λ e. e) (in_three h))
+      (Middle.even long (w.has_link x (◌∈◌.later ◌∈◌.first)) far_x
       (λ a h far. ⊎_elim (λ e. e)
       (⊎_elim (λ e. absurd (omega (arith, far_same far (down_far c rank down_p) e))) (λ e. absurd (omega (arith, far_same far (down_far c rank down_q) e))))
       (in_three (beyond_of down_p down_q w a h far))))
@@ -139,13 +139,13 @@ module _ (c : Compound) (sound : Sound c) (rank : ℕ → ℕ) where
   member_family s t = middle_same (corners s) (corners t) (sym s.long ∙ t.long) (corners s).middle (corners t).middle
 
   pub linked_far : {f : Family} {d a e : ℕ} {link : List ℕ} → Candidate c rank f d link → a ∈ link → Distance c a f.r e → d ≤ e
-  linked_far (Candidate.odd less bond underP underQ long) h far =
-      ⊎_elim (λ g. omega (arith, far_same far (down_far c rank underP.1.1) g)) (λ g. omega (arith, far_same far (down_far c rank underQ.1.1) g))
+  linked_far (Candidate.odd less bond under_p under_q long) h far =
+      ⊎_elim (λ g. omega (arith, far_same far (down_far c rank under_p.1.1) g)) (λ g. omega (arith, far_same far (down_far c rank under_q.1.1) g))
       (in_two h)
-  linked_far (Candidate.even less bondP bondQ underX underP underQ long) h far =
-      ⊎_elim (λ g. omega (arith, far_same far (down_far c rank underX.1.1) g))
-      (⊎_elim (λ g. omega (arith, far_same far (down_far c rank underP.1.1) g))
-      (λ g. omega (arith, far_same far (down_far c rank underQ.1.1) g))) (in_three h)
+  linked_far (Candidate.even less bond_p bond_q under_x under_p under_q long) h far =
+      ⊎_elim (λ g. omega (arith, far_same far (down_far c rank under_x.1.1) g))
+      (⊎_elim (λ g. omega (arith, far_same far (down_far c rank under_p.1.1) g))
+      (λ g. omega (arith, far_same far (down_far c rank under_q.1.1) g))) (in_three h)
 
   -- An atom that precedes r and stands on a path is not one that shares only r with it.
   pub stray : {a b r : ℕ} {Q : List ℕ} → Precedes c rank b r → b ∈ Q → (a ∈ Q → a ≡ r) → a ≡ b → ⊥
@@ -154,14 +154,14 @@ module _ (c : Compound) (sound : Sound c) (rank : ℕ → ℕ) where
   -- An atom of the link on a path down from one of its ends is p or q.
   pub linked_end : {f : Family} {d t a : ℕ} {link P : List ℕ} → Candidate c rank f d link → Down c rank f.r t d P → a ∈ link → a ∈ P
       → (a ≡ f.p) ⊎ (a ≡ f.q)
-  linked_end (Candidate.odd less bond underP underQ long) down h g = in_two h
-  linked_end {P} (Candidate.even less bondP bondQ underX underP underQ long) down h g =
-      ⊎_elim (λ e. absurd (down_near c rank down (down_far c rank underX.1.1) (omega arith) (subst (λ (x : ℕ). x ∈ P) e g))) (λ e. e) (in_three h)
+  linked_end (Candidate.odd less bond under_p under_q long) down h g = in_two h
+  linked_end {P} (Candidate.even less bond_p bond_q under_x under_p under_q long) down h g =
+      ⊎_elim (λ e. absurd (down_near c rank down (down_far c rank under_x.1.1) (omega arith) (subst (λ (x : ℕ). x ∈ P) e g))) (λ e. e) (in_three h)
 
   -- p and q precede the top atom.
   pub ends_precede : {f : Family} {d : ℕ} {link : List ℕ} → Candidate c rank f d link → Precedes c rank f.p f.r × Precedes c rank f.q f.r
-  ends_precede (Candidate.odd less bond underP underQ long) = (underP.0, underQ.0)
-  ends_precede (Candidate.even less bondP bondQ underX underP underQ long) = (underP.0, underQ.0)
+  ends_precede (Candidate.odd less bond under_p under_q long) = (under_p.0, under_q.0)
+  ends_precede (Candidate.even less bond_p bond_q under_x under_p under_q long) = (under_p.0, under_q.0)
 
   -- Which bonds a sum of three sets holds.
   pub holds_three : {C : ℕ} (S T U k : ℕ) → C ≡ bit_xor (bit_xor S T) U → holds C k ≡ xor (xor (holds S k) (holds T k)) (holds U k)
@@ -194,9 +194,9 @@ module _ (c : Compound) (sound : Sound c) (rank : ℕ → ℕ) where
   -- An atom of the link that is no farther than p and q is p or q.
   pub linked_near : {f : Family} {d a e : ℕ} {link : List ℕ} → Candidate c rank f d link → a ∈ link → Distance c a f.r e → e ≤ d
       → (a ≡ f.p) ⊎ (a ≡ f.q)
-  linked_near (Candidate.odd less bond underP underQ long) h far le = in_two h
-  linked_near (Candidate.even less bondP bondQ underX underP underQ long) h far le =
-      ⊎_elim (λ e. absurd (omega (arith, far_same far (down_far c rank underX.1.1) e))) (λ e. e) (in_three h)
+  linked_near (Candidate.odd less bond under_p under_q long) h far le = in_two h
+  linked_near (Candidate.even less bond_p bond_q under_x under_p under_q long) h far le =
+      ⊎_elim (λ e. absurd (omega (arith, far_same far (down_far c rank under_x.1.1) e))) (λ e. e) (in_three h)
 
   once_two : {p q : ℕ} → (p ≡ q → ⊥) → Once (p ∷ q ∷ [])
   once_two {p} {q} other = Once.more {x = p} (λ h. other (sym (in_one h))) (Once.more {x = q} not_in_none Once.none)
@@ -206,11 +206,11 @@ module _ (c : Compound) (sound : Sound c) (rank : ℕ → ℕ) where
 
   -- The atoms of a link are different.
   link_once : {f : Family} {d : ℕ} {link : List ℕ} → Candidate c rank f d link → Once link
-  link_once (Candidate.odd less bond underP underQ long) = once_two (λ e. omega (arith, e))
-  link_once (Candidate.even less bondP bondQ underX underP underQ long) =
-      let farX = down_far c rank underX.1.1 in
-      once_three (λ e. omega (arith, far_same (down_far c rank underP.1.1) farX e)) (λ e. omega (arith, e))
-      (λ e. omega (arith, far_same (down_far c rank underQ.1.1) farX e))
+  link_once (Candidate.odd less bond under_p under_q long) = once_two (λ e. omega (arith, e))
+  link_once (Candidate.even less bond_p bond_q under_x under_p under_q long) =
+      let far_x = down_far c rank under_x.1.1 in
+      once_three (λ e. omega (arith, far_same (down_far c rank under_p.1.1) far_x e)) (λ e. omega (arith, e))
+      (λ e. omega (arith, far_same (down_far c rank under_q.1.1) far_x e))
 
   module _ {f : Family} {d : ℕ} {link P Q : List ℕ} {C : ℕ} (s : Made c sound rank f d link P Q C) (apart : (a : ℕ) → a ∈ P → a ∈ Q → a ≡ f.r) where
     linked_P : (a : ℕ) → a ∈ link → a ∈ P → a ≡ f.p

@@ -46,14 +46,14 @@ module _ (c : Compound) (sound : Sound c) {B : List ℕ} (minimum : Minimum c B)
       let same = part_unique bond_sets minimum.basis.independent (part_trans (split_part (len c) low) q) p (d ∙ sym e) in
       subst (All (λ S. len c S < suc (len c C))) same (part_all q (split_low (len c) low))
 
-  module _ {C D : ℕ} {Cs Ds : List ℕ} (closedC : Closed c C) (closedD : Closed c D) (long : len c C ≡ len c D) (p : Part B Cs) (q : Part B Ds)
-      (sumC : Sum bond_sets Cs ≡ C) (sumD : Sum bond_sets Ds ≡ D) where
+  module _ {C D : ℕ} {Cs Ds : List ℕ} (closed_c : Closed c C) (closed_d : Closed c D) (long : len c C ≡ len c D) (p : Part B Cs) (q : Part B Ds)
+      (sum_c : Sum bond_sets Cs ≡ C) (sum_d : Sum bond_sets Ds ≡ D) where
     high_c : Sift (λ S. ¬ (len c S < len c C)) Cs (exact (len c) (len c C) Cs)
-    high_c = exact_high (len c) (expansion_no_longer closedC p sumC) (exact_sift (len c) (len c C) Cs)
+    high_c = exact_high (len c) (expansion_no_longer closed_c p sum_c) (exact_sift (len c) (len c C) Cs)
 
     high_d : Sift (λ S. ¬ (len c S < len c C)) Ds (exact (len c) (len c C) Ds)
     high_d =
-        exact_high (len c) (subst (λ (k : ℕ). All (λ S. len c S < suc k) Ds) (sym long) (expansion_no_longer closedD q sumD))
+        exact_high (len c) (subst (λ (k : ℕ). All (λ S. len c S < suc k) Ds) (sym long) (expansion_no_longer closed_d q sum_d))
         (exact_sift (len c) (len c C) Ds)
 
     -- Near exactly if the members of their own length that they are sums of are the same.
@@ -63,9 +63,9 @@ module _ (c : Compound) (sound : Sound c) {B : List ℕ} (minimum : Minimum c B)
         let i = by_recursion bond_sets B minimum.basis.independent in
         let k = len c C in (
           λ s. spans_agree bond_sets i p q (split (len c) k B) (high_sift (len c) k B) (split (len c) k Cs) high_c (split (len c) k Ds) high_d
-              (at bond_sets (sym (ap₂ bit_xor sumC sumD)) (near_span c sound minimum s)),
+              (at bond_sets (sym (ap₂ bit_xor sum_c sum_d)) (near_span c sound minimum s)),
           λ e. span_near c sound minimum long
-              (at bond_sets (ap₂ bit_xor sumC sumD)
+              (at bond_sets (ap₂ bit_xor sum_c sum_d)
               (agree_spans bond_sets i p q (split (len c) k B) (high_sift (len c) k B) (split (len c) k Cs) high_c (split (len c) k Ds) high_d e)),
         )
 

@@ -83,10 +83,10 @@ module _ (c : Compound) (sound : Sound c) {B : List ℕ} (minimum : Minimum c B)
   -- Over a minimum basis whose first members are those shorter than C and D: near exactly if the tags agree in all digits from there on.
   pub near_iff_same_key : {C D t u short : ℕ} → take short B ≡ below (len c) (len c C) B → short ≤ length B → len c C ≡ len c D
       → C ≡ combine B t → D ≡ combine B u → t < 2 ^ length B → u < 2 ^ length B → Near c C D ↔ (t / 2 ^ short ≡ u / 2 ^ short)
-  near_iff_same_key {C} {D} {t} {u} {short} front few long isC isD ht hu = (to, back)
+  near_iff_same_key {C} {D} {t} {u} {short} front few long is_c is_d ht hu = (to, back)
     where
       sum : bit_xor C D ≡ combine B (bit_xor t u)
-      sum = ap₂ bit_xor isC isD ∙ sym (combine_xor B t u)
+      sum = ap₂ bit_xor is_c is_d ∙ sym (combine_xor B t u)
 
       to : Near c C D → t / 2 ^ short ≡ u / 2 ^ short
       to s =
@@ -107,6 +107,6 @@ module _ (c : Compound) (sound : Sound c) (rank : ℕ → ℕ) (injective : (a b
   -- Near exactly if the tags over the marked prototypes agree from the number of the shorter ones on.
   pub marked_near_iff : {C D t u : ℕ} → len c C ≡ len c D → C ≡ combine right.basis t → D ≡ combine right.basis u
       → t < 2 ^ length right.basis → u < 2 ^ length right.basis → Near c C D ↔ (t / 2 ^ short_of c right (len c C) ≡ u / 2 ^ short_of c right (len c C))
-  marked_near_iff {C} long isC isD ht hu =
+  marked_near_iff {C} long is_c is_d ht hu =
       near_iff_same_key c sound (marked_minimum c sound rank injective right) (marked_front c sound rank right (len c C))
-      (marked_short_le c sound rank right (len c C)) long isC isD ht hu
+      (marked_short_le c sound rank right (len c C)) long is_c is_d ht hu

@@ -40,8 +40,8 @@ module _ (c : Compound) (sound : Sound c) where
   top_is v r p before (no n) = absurd (omega (arith, is_other v r n))
 
   candidate_top : {v d : ℕ} {f : Family} {link : List ℕ} → Candidate c (is v) f d link → f.r ≡ v
-  candidate_top {v} (Candidate.odd {r = r} {p = p} less bond underP underQ long) = top_is v r p underP.0 (ℕ_discrete v r)
-  candidate_top {v} (Candidate.even {r = r} {p = p} less bondP bondQ underX underP underQ long) = top_is v r p underP.0 (ℕ_discrete v r)
+  candidate_top {v} (Candidate.odd {r = r} {p = p} less bond under_p under_q long) = top_is v r p under_p.0 (ℕ_discrete v r)
+  candidate_top {v} (Candidate.even {r = r} {p = p} less bond_p bond_q under_x under_p under_q long) = top_is v r p under_p.0 (ℕ_discrete v r)
 
   -- The path of the method from an atom under r.
   under_path : {rank : ℕ → ℕ} {r t d : ℕ} → Under c rank r t d → Path c r t d
@@ -55,27 +55,27 @@ module _ (c : Compound) (sound : Sound c) where
     -- What a candidate's paths make up, where every other atom precedes its top atom.
     made_reached : {f : Family} {d C : ℕ} {link P Q : List ℕ} → Candidate c (is f.r) f d link → Made c sound (is f.r) f d link P Q C
         → Reached c ps f.long C
-    made_reached {C = C} (Candidate.odd {r = v} {d = d} {k = k} less (j, joins) underP underQ long) made =
-        let Y = under_path underP in
-        let Z = under_path underQ in
+    made_reached {C = C} (Candidate.odd {r = v} {d = d} {k = k} less (j, joins) under_p under_q long) made =
+        let Y = under_path under_p in
+        let Z = under_path under_q in
         let T = loop c Y Z j in
-        let some = down_some c (is v) underP.1.1 underP.0 in
+        let some = down_some c (is v) under_p.1.1 under_p.0 in
         let own =
-        path_made c sound Y Z (Candidate.odd less (j, joins) underP underQ long) (Edges.more joins Edges.point refl)
+        path_made c sound Y Z (Candidate.odd less (j, joins) under_p under_q long) (Edges.more joins Edges.point refl)
         (link_sum Y.bonds Z.bonds (2 ^ j)) in
         reached_add (shorter_reached c (made_differ_shorter c sound (is v) made own))
         (subst (λ (n : ℕ). Reached c ps n T) (sym long) (level_reached c sound v ps (listed v) joins some Y Z)) (odd_sum C T)
-    made_reached {C = C} (Candidate.even {r = v} {d = d} {k = k} less (i, to_x) (j, toQ) underX underP underQ long) made =
-        let Y = under_path underP in
-        let Z = under_path underQ in
-        let X = under_path underX in
+    made_reached {C = C} (Candidate.even {r = v} {d = d} {k = k} less (i, to_x) (j, to_q) under_x under_p under_q long) made =
+        let Y = under_path under_p in
+        let Z = under_path under_q in
+        let X = under_path under_x in
         let T = bit_xor (bit_xor Y.bonds Z.bonds) (bit_xor (2 ^ i) (bit_xor (2 ^ j) 0)) in
         let own =
-        path_made c sound Y Z (Candidate.even less (i, to_x) (j, toQ) underX underP underQ long)
-        (Edges.more to_x (Edges.more toQ Edges.point refl) refl) refl in
+        path_made c sound Y Z (Candidate.even less (i, to_x) (j, to_q) under_x under_p under_q long)
+        (Edges.more to_x (Edges.more to_q Edges.point refl) refl) refl in
         let H = bit_xor (bit_xor (bit_xor Y.bonds X.bonds) (2 ^ i)) (loop c Z X j) in
         let first = up_reached c sound v ps (listed v) to_x Y X in
-        let second = up_reached c sound v ps (listed v) (joins_sym c toQ) Z X in
+        let second = up_reached c sound v ps (listed v) (joins_sym c to_q) Z X in
         reached_add (shorter_reached c (made_differ_shorter c sound (is v) made own))
         (subst (λ (n : ℕ). Reached c ps n H) (sym long) (reached_add first second refl))
         (even_sum C T Y.bonds Z.bonds X.bonds (2 ^ i) (2 ^ j) refl)

@@ -74,9 +74,9 @@ module _ (c : Compound) (sound : Sound c) (rank : ℕ → ℕ) (injective : (a b
 
     both_sides : {a b x y : ℕ} → Exactly x (DownWith c rank T f.r f.p d) → Exactly y (DownWith c rank T f.r f.q d)
         → Exactly a (Down c rank f.r f.p d) → Exactly b (Down c rank f.r f.q d) → Exactly (x * b + y * a) (MemberWith c rank H f)
-    both_sides {a} {b} {x} {y} onP onQ allP allQ =
+    both_sides {a} {b} {x} {y} on_p on_q all_p all_q =
         exactly_as
-        (exactly_either (pairs (λ P w. w.down) (λ Q w. w) onP allQ) (exactly_at (mul_comm a y) (pairs (λ P w. w) (λ Q w. w.down) allP onQ)) sides_apart)
+        (exactly_either (pairs (λ P w. w.down) (λ Q w. w) on_p all_q) (exactly_at (mul_comm a y) (pairs (λ P w. w) (λ Q w. w.down) all_p on_q)) sides_apart)
         on_a_side
 
   -- What every member has, as many have as the family has members.
@@ -103,9 +103,9 @@ module _ (c : Compound) (sound : Sound c) (rank : ℕ → ℕ) (injective : (a b
       → Exactly u (Fall c rank f.r f.p d t (suc e)) → Exactly v (Fall c rank f.r f.q d t (suc e)) → Exactly w (Down c rank f.r s e)
       → Exactly a (Down c rank f.r f.p d) → Exactly b (Down c rank f.r f.q d)
       → Exactly (u * w * b + v * w * a) (MemberWith c rank (λ C. bit C k ≡ 1) f)
-  bond_share_lem {k} {e} joins before far far' less upP upQ downs allP allQ =
+  bond_share_lem {k} {e} joins before far far' less up_p up_q downs all_p all_q =
       both_sides (Uses c k) (λ C. bit C k ≡ 1) (λ P Q C s. uses_apart c sound (apart s)) (λ P Q C. bond_from off) (λ P Q C. bond_to off)
-      (paths_along_bond c rank joins before far far' upP downs) (paths_along_bond c rank joins before far far' upQ downs) allP allQ
+      (paths_along_bond c rank joins before far far' up_p downs) (paths_along_bond c rank joins before far far' up_q downs) all_p all_q
     where
       off : Uses c k link → ⊥
       off u = omega (arith, linked_far c sound rank candidate (uses_left c u (joins_sym c joins)) far')
@@ -133,10 +133,10 @@ module _ (c : Compound) (sound : Sound c) (rank : ℕ → ℕ) (injective : (a b
       → Exactly u (Fall c rank f.r f.p d t e) → Exactly v (Fall c rank f.r f.q d t e) → Exactly w (Down c rank f.r t e)
       → Exactly a (Down c rank f.r f.p d) → Exactly b (Down c rank f.r f.q d)
       → Exactly (u * w * b + v * w * a) (MemberWith c rank (λ C. 0 < degree c C t) f)
-  atom_share_lem {t} {e} far some near upP upQ downs allP allQ =
+  atom_share_lem {t} {e} far some near up_p up_q downs all_p all_q =
       both_sides (λ P. t ∈ P) (λ C. 0 < degree c C t) (λ P Q C. one_side) (λ P Q C. from)
       (λ P Q C s. ⊎_elim ((ring_of_lem s).has_P t) ((ring_of_lem s).has_Q t))
-      (paths_through_atom c rank far upP downs) (paths_through_atom c rank far upQ downs) allP allQ
+      (paths_through_atom c rank far up_p downs) (paths_through_atom c rank far up_q downs) all_p all_q
     where
       one_side : {P Q : List ℕ} {C : ℕ} → Makes P Q C → t ∈ P → t ∈ Q → ⊥
       one_side s h g =

@@ -21,7 +21,7 @@ use Rattle.model.specs.Run.{Numbering, blank, more, numbered, classed, settled}
 use Rattle.model.proofs.Related.{through_related}
 use Rattle.rows.specs.Rows.{Numbers, family_bytes, class_bytes, put_family, open_class, more_class, numbered_in, patched}
 use Rattle.ledger.specs.Ledger.{Ledger, marked_in, summed_in, entered, settled_in}
-use Rattle.engine.proofs.Laid.{laid, length_laid, laid_out, laid_next, get_d_laid, set_laid, put, put_laid}
+use Rattle.engine.proofs.Laid.{laid, length_laid, laid_out, laid_next, get_or_laid, set_laid, put, put_laid}
 
 -- ---- rows and class rows as bytes
 
@@ -193,7 +193,7 @@ module _ (table₀ : List ℕ) where
     bytes = written_classes table₀ (A ++ row ∷ B)
 
     read : (j : ℕ) → c < length table₀ / 5 → j < 5 → get_or bytes (5 * c + j) 0 ≡ get_or (class_row_bytes row) j 0
-    read j l = get_d_laid 5 class_row_bytes class_wide room_5 table₀ A B c before row j l
+    read j l = get_or_laid 5 class_row_bytes class_wide room_5 table₀ A B c before row j l
 
     more_bytes : c < length table₀ / 5
         → class_bytes (get_or bytes (5 * c) 0) (get_or bytes (5 * c + 1) 0 + 1) (get_or bytes (5 * c + 2) 0 + 256 * get_or bytes (5 * c + 3) 0 + held)
@@ -265,7 +265,7 @@ module _ (out₀ labels : List ℕ) where
       → patched labels i (written_rows out₀ (A ++ row ∷ B)) ≡ written_rows out₀ (A ++ classed labels row ∷ B)
   unfolding patched classed family_bytes
   patch_one A B row i e l =
-      rw (get_d_laid 8 row_bytes row_wide room_8 out₀ A B i e row 6 l (omega arith))
+      rw (get_or_laid 8 row_bytes row_wide room_8 out₀ A B i e row 6 l (omega arith))
       (set_laid 8 row_bytes row_wide room_8 out₀ A B i e row (classed labels row) 6 (get_or labels row.class 0) l (omega arith) refl)
 
   patch_rows : (A B C : List Row) (i : ℕ) → length A ≡ i → i + length B ≤ length out₀ / 8

@@ -31,8 +31,8 @@ length_over bytes lent h = simp (length-append, length-drop) (omega arith)
 -- ---- bytes in the middle
 
 module _ (P b R : List ℕ) (at : ℕ) (before : length P ≡ at) where
-  get_d_mid : (j : ℕ) → j < length b → get_or (P ++ (b ++ R)) (at + j) 0 ≡ get_or b j 0
-  get_d_mid j h = rw (← before, get_or-append-add P (b ++ R) j 0) (get_or-append b R 0 j h)
+  get_or_mid : (j : ℕ) → j < length b → get_or (P ++ (b ++ R)) (at + j) 0 ≡ get_or b j 0
+  get_or_mid j h = rw (← before, get_or-append-add P (b ++ R) j 0) (get_or-append b R 0 j h)
 
   set_mid : (j v : ℕ) → j < length b → set (P ++ (b ++ R)) (at + j) v ≡ P ++ (set b j v ++ R)
   set_mid j v h = rw (← before, set_append_add P (b ++ R) j v, set-append_left b R j v h)
@@ -140,9 +140,9 @@ module _ {X : Type 0} (w : ℕ) (bytes : X → List ℕ) (wide : (x : X) → len
     at = length_each A ∙ ap (λ (n : ℕ). w * n) before
 
     -- Byte j of row i.
-    pub get_d_laid : (x : X) (j : ℕ) → i < length lent / w → j < w → get_or (laid w bytes lent (A ++ x ∷ B)) (w * i + j) 0 ≡ get_or (bytes x) j 0
+    pub get_or_laid : (x : X) (j : ℕ) → i < length lent / w → j < w → get_or (laid w bytes lent (A ++ x ∷ B)) (w * i + j) 0 ≡ get_or (bytes x) j 0
     unfolding middle
-    get_d_laid x j h l = rw (laid_middle x h) (get_d_mid (each bytes A) (bytes x) _ (w * i) at j (omega (arith, wide x)))
+    get_or_laid x j h l = rw (laid_middle x h) (get_or_mid (each bytes A) (bytes x) _ (w * i) at j (omega (arith, wide x)))
 
     -- Row i with another byte j.
     pub set_laid : (x y : X) (j v : ℕ) → i < length lent / w → j < w → bytes y ≡ set (bytes x) j v

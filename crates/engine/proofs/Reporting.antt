@@ -12,7 +12,7 @@ use Rattle.cycles.specs.Rows.{Row}
 use Rattle.answers.specs.Answered.{over, size_of}
 use Rattle.model.specs.Net.{net_of}
 use Rattle.model.specs.Run.{report}
-use Rattle.model.proofs.NetRead.{get_d_zeros}
+use Rattle.model.proofs.NetRead.{get_or_zeros}
 use Rattle.reading.specs.Reading.{compound}
 use Rattle.candidates.specs.declared.Going.{Going}
 use Rattle.candidates.specs.Engine.{Engine}
@@ -24,34 +24,34 @@ use Rattle.engine.proofs.Ran.{Ran, engine_ran}
 
 -- ---- sizes over zeros
 
-get_d_over_zeros : (xs : List ℕ) (k j : ℕ) → get_or (over xs (replicate k 0)) j 0 ≡ get_or xs j 0
+get_or_over_zeros : (xs : List ℕ) (k j : ℕ) → get_or (over xs (replicate k 0)) j 0 ≡ get_or xs j 0
 unfolding over
-get_d_over_zeros xs k j = elim (lt_or_ge j (length xs)) [
+get_or_over_zeros xs k j = elim (lt_or_ge j (length xs)) [
   | inl h ↦ get_or-append xs (drop (length xs) (replicate k 0)) 0 j h
   | inr h ↦
       let split : j ≡ length xs + (j - length xs) = omega arith in
       ap (λ (i : ℕ). get_or (xs ++ drop (length xs) (replicate k 0)) i 0) split
       ∙ get_or-append-add xs (drop (length xs) (replicate k 0)) (j - length xs) 0
       ∙ get_or-drop (length xs) (replicate k 0) (j - length xs) 0
-      ∙ get_d_zeros k (length xs + (j - length xs))
+      ∙ get_or_zeros k (length xs + (j - length xs))
       ∙ sym (get_or-eq_default xs 0 h)
 ]
 
-get_d_sizes : (rows : List Row) (i : ℕ) → get_or (map (λ row. row.size) rows) i 0 ≡ size_of rows i
+get_or_sizes : (rows : List Row) (i : ℕ) → get_or (map (λ row. row.size) rows) i 0 ≡ size_of rows i
 unfolding size_of
-get_d_sizes [] i = refl
-get_d_sizes (row ∷ rows) zero = refl
-get_d_sizes (row ∷ rows) (suc i) = get_d_sizes rows i
+get_or_sizes [] i = refl
+get_or_sizes (row ∷ rows) zero = refl
+get_or_sizes (row ∷ rows) (suc i) = get_or_sizes rows i
 
 sizes_over_zeros : (from k : ℕ) (rows : List Row) (j : ℕ) → j < k → get_or (written_sizes from (replicate k 0) rows) j 0 ≡ size_of rows (from + j)
 unfolding written_from
 sizes_over_zeros from k rows j h =
     let xs : List ℕ = map (λ row. row.size) rows in
     let inside : j < length (replicate {A = ℕ} k 0) = rw (length-replicate {A = ℕ} k 0) h in
-    get_d_over_zeros (take (length (replicate {A = ℕ} k 0)) (drop from xs)) k j
+    get_or_over_zeros (take (length (replicate {A = ℕ} k 0)) (drop from xs)) k j
     ∙ get_or-take (length (replicate {A = ℕ} k 0)) (drop from xs) j 0 inside
     ∙ get_or-drop from xs j 0
-    ∙ get_d_sizes rows (from + j)
+    ∙ get_or_sizes rows (from + j)
 
 -- ---- a run
 

@@ -32,15 +32,15 @@ pub record Small (f : Family) : Type 0 where
 
 module _ (c : Compound) (rank pre : ℕ → ℕ) (ready : Ready c rank pre) where
   candidate_small : {f : Family} {d : ℕ} {link : List ℕ} → Candidate c rank f d link → (f.p < 64) × (f.q < 64) × (f.x < 256)
-  candidate_small (Candidate.odd {p = p} {q = q} less bond underP underQ e) = (
+  candidate_small (Candidate.odd {p = p} {q = q} less bond under_p under_q e) = (
     omega (arith, ready.atoms, ready.sound.named bond.0 p q bond.1),
     omega (arith, ready.atoms, ready.sound.named bond.0 q p (joins_sym c bond.1)),
     omega arith,
   )
-  candidate_small (Candidate.even {p = p} {q = q} {x = x} less bondP bondQ underX underP underQ e) = (
-    omega (arith, ready.atoms, ready.sound.named bondP.0 p x bondP.1),
-    omega (arith, ready.atoms, ready.sound.named bondQ.0 q x (joins_sym c bondQ.1)),
-    omega (arith, ready.atoms, ready.sound.named bondQ.0 x q bondQ.1),
+  candidate_small (Candidate.even {p = p} {q = q} {x = x} less bond_p bond_q under_x under_p under_q e) = (
+    omega (arith, ready.atoms, ready.sound.named bond_p.0 p x bond_p.1),
+    omega (arith, ready.atoms, ready.sound.named bond_q.0 q x (joins_sym c bond_q.1)),
+    omega (arith, ready.atoms, ready.sound.named bond_q.0 x q bond_q.1),
   )
 
   -- The numbers of a kept family are small.

@@ -15,7 +15,7 @@ use Rattle.model.specs.Fold.{through, count}
 use Rattle.model.specs.Net.{Net, preceding}
 use Rattle.model.specs.Layer.{layers_into}
 use Rattle.model.specs.Loops.{Running, running, seek, tops, top_loop, length_loop, length_round}
-use Rattle.model.proofs.NetRead.{get_d_zeros}
+use Rattle.model.proofs.NetRead.{get_or_zeros}
 use Rattle.atoms.specs.Nets.{neighbours}
 use Rattle.atoms.proofs.Loops.{Over, over_lowest, over_next, Upto, upto_next}
 use Rattle.search.proofs.Same.{layers_into_same}
@@ -155,7 +155,7 @@ pub fit_start : Fit (replicate 82 0) (replicate 82 0) (record { marks = 0; short
 fit_start = record {
   labels_long = length-replicate {A = ℕ} 82 0;
   holds_long = length-replicate {A = ℕ} 82 0;
-  labelled = record { below = λ i. omega (arith, get_d_zeros 82 i) };
+  labelled = record { below = λ i. omega (arith, get_or_zeros 82 i) };
   marks_fit = omega arith;
   short_fit = omega arith;
   classes_fit = omega arith;

@@ -66,10 +66,10 @@ pub nodup_atoms : (u : ℕ) (p : Steps) → Distinct u p → Nodup (u ∷ atoms 
 nodup_atoms u end d = (refl, tt)
 nodup_atoms u (go k w p) d = (mem_atoms (go k w p) u ∙ d.0, nodup_atoms w p d.1)
 
-pub get_d_atoms : (u : ℕ) (p : Steps) (i : ℕ) → i ≤ len p → get_or (u ∷ atoms p) i 0 ≡ atom u p i
-get_d_atoms u p zero h = refl
-get_d_atoms u end (suc i) h = absurd (omega arith)
-get_d_atoms u (go k w p) (suc i) h = get_d_atoms w p i (omega arith)
+pub get_or_atoms : (u : ℕ) (p : Steps) (i : ℕ) → i ≤ len p → get_or (u ∷ atoms p) i 0 ≡ atom u p i
+get_or_atoms u p zero h = refl
+get_or_atoms u end (suc i) h = absurd (omega arith)
+get_or_atoms u (go k w p) (suc i) h = get_or_atoms w p i (omega arith)
 
 -- The bond of two atoms, looked up.
 

@@ -62,11 +62,11 @@ short_cut G Z C i le q h e s₁ s₂ =
     let s : ℕ = cnt (cset G C) G.m in
     let A : Steps = take_s i C.p in
     let B : Steps = arc G C i in
-    let lA : len A + len q < s = omega (arith, cycle_size G C, len_take i C.p le) in
-    let lB : len q + len B < s = omega (arith, cycle_size G C, arc_len G C i le) in
+    let l_a : len A + len q < s = omega (arith, cycle_size G C, len_take i C.p le) in
+    let l_b : len q + len B < s = omega (arith, cycle_size G C, arc_len G C i le) in
     join_sums G (Shorter G s) (cset G C) (sum (edges A) (edges q)) (sum (edges q) (edges B))
-    (walks_sum G Z s C.w A q (walk_take G C.w i C.p C.walk) h (last_take C.w i C.p ∙ sym e) lA)
-    (walks_sum G Z s C.w q B h (arc_walk G C i) (e ∙ sym (arc_last G C i)) lB)
+    (walks_sum G Z s C.w A q (walk_take G C.w i C.p C.walk) h (last_take C.w i C.p ∙ sym e) l_a)
+    (walks_sum G Z s C.w q B h (arc_walk G C i) (e ∙ sym (arc_last G C i)) l_b)
     (λ k l. arc_edges G C i k ∙ sym (xor_chain (edges A k) (edges q k) (edges B k)))
 
 shorter_ext : (G : Graph) (S T : BondSet) → Agree G S T → SumOf G (Shorter G (cnt S G.m)) S → SumOf G (Shorter G (cnt T G.m)) T

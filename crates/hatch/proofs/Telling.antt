@@ -43,19 +43,19 @@ module _ (a : Answer) (size : ℕ) {r : Reply} (made : r ≡ reply_of (told a si
   with_size_made other = ap (λ t. with_size t other) told_by_made ∙ with_size_told a size other
 
 -- The claim of a call, for what is told in another form.
-pub answered_as : {n i : ℕ} {bonds rows class_rows rows' classRows' : List ℕ} {s t : Told} → t ≡ s
-    → Answered n bonds rows class_rows i s rows' classRows' → Answered n bonds rows class_rows i t rows' classRows'
-answered_as {n} {i} {bonds} {rows} {class_rows} {rows'} {classRows'} e = subst (λ t. Answered n bonds rows class_rows i t rows' classRows') (sym e)
+pub answered_as : {n i : ℕ} {bonds rows class_rows rows' class_rows' : List ℕ} {s t : Told} → t ≡ s
+    → Answered n bonds rows class_rows i s rows' class_rows' → Answered n bonds rows class_rows i t rows' class_rows'
+answered_as {n} {i} {bonds} {rows} {class_rows} {rows'} {class_rows'} e = subst (λ t. Answered n bonds rows class_rows i t rows' class_rows') (sym e)
 
 -- What a call on an answer ensures of the reply that is made of it: without a size, and with one.
-module _ {n : ℕ} {bonds rows class_rows rows' classRows' : List ℕ} (a : Answer) {r : Reply} where
-  pub families_told : r ≡ reply_of (told a 0) → AnsweredFirst n bonds rows class_rows (told a) rows' classRows'
-      → AnsweredFirst n bonds rows class_rows (with_size (told_by r)) rows' classRows' × (r ≡ reply_of (with_size (told_by r) 0))
+module _ {n : ℕ} {bonds rows class_rows rows' class_rows' : List ℕ} (a : Answer) {r : Reply} where
+  pub families_told : r ≡ reply_of (told a 0) → AnsweredFirst n bonds rows class_rows (told a) rows' class_rows'
+      → AnsweredFirst n bonds rows class_rows (with_size (told_by r)) rows' class_rows' × (r ≡ reply_of (with_size (told_by r) 0))
   families_told made claim = (
     λ i. ((claim i).0, answered_as (with_size_made a 0 made (claim i).0) (claim i).1),
     made ∙ ap reply_of (sym (with_size_made a 0 made 0)),
   )
 
-  pub size_told : {row : ℕ} (size : ℕ) → r ≡ reply_of (told a size) → Answered n bonds rows class_rows row (told a size) rows' classRows'
-      → Answered n bonds rows class_rows row (told_by r) rows' classRows' × (r ≡ reply_of (told_by r))
+  pub size_told : {row : ℕ} (size : ℕ) → r ≡ reply_of (told a size) → Answered n bonds rows class_rows row (told a size) rows' class_rows'
+      → Answered n bonds rows class_rows row (told_by r) rows' class_rows' × (r ≡ reply_of (told_by r))
   size_told size made claim = (answered_as (told_by_made a size made) claim, made ∙ ap reply_of (sym (told_by_made a size made)))

@@ -43,7 +43,7 @@ pub record Room (t : Told) : Type 0 where
   pub families : families_in t ≤ 4096
   pub classes : classes_in t ≤ 82
 
-answered_room : {n i : ℕ} {bonds rows class_rows rows' classRows' : List ℕ} {t : Told} → Answered n bonds rows class_rows i t rows' classRows'
+answered_room : {n i : ℕ} {bonds rows class_rows rows' class_rows' : List ℕ} {t : Told} → Answered n bonds rows class_rows i t rows' class_rows'
     → length class_rows ≡ 410 → Room t
 unfolding families_in classes_in
 answered_room (by_input a) h = record { families = omega arith; classes = omega arith }
@@ -66,8 +66,8 @@ room_told (FewRows needed) s w = w
 room_told (FewClassRows needed) s w = w
 room_told ManyRings s w = w
 
-pub answer_room : {n i : ℕ} {bonds rows rows' classRows' : List ℕ} (a : Answer) (s : ℕ)
-    → Answered n bonds rows (replicate 410 0) i (told a s) rows' classRows' → Room (told a 0)
+pub answer_room : {n i : ℕ} {bonds rows rows' class_rows' : List ℕ} (a : Answer) (s : ℕ)
+    → Answered n bonds rows (replicate 410 0) i (told a s) rows' class_rows' → Room (told a 0)
 answer_room a s w = room_told a s (answered_room w (length-replicate {A = ℕ} 410 0))
 
 -- what a text that is read says, and where its bond bytes stand

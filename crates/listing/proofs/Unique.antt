@@ -39,11 +39,11 @@ unfolding families_in
 told_size a s t e h = same_size a s t e (λ number at z. absurd (omega (arith, h, ap families_in z)))
 
 -- what is answered for every row leaves one listing
-lines_unique : (n m : ℕ) (bytes : List ℕ) (a b : Answer) (rows xs class_rows rows' ys classRows' : List ℕ)
+lines_unique : (n m : ℕ) (bytes : List ℕ) (a b : Answer) (rows xs class_rows rows' ys class_rows' : List ℕ)
     → ((j : ℕ) → j < 4096 → Answered n bytes (replicate 32768 0) (replicate 410 0) j (told a (get_or xs j 0)) rows class_rows)
-    → ((j : ℕ) → j < 4096 → Answered n bytes (replicate 32768 0) (replicate 410 0) j (told b (get_or ys j 0)) rows' classRows')
-    → lines_of n m rows xs class_rows (told a 0) ≡ lines_of n m rows' ys classRows' (told b 0)
-lines_unique n m bytes a b rows xs class_rows rows' ys classRows' p q =
+    → ((j : ℕ) → j < 4096 → Answered n bytes (replicate 32768 0) (replicate 410 0) j (told b (get_or ys j 0)) rows' class_rows')
+    → lines_of n m rows xs class_rows (told a 0) ≡ lines_of n m rows' ys class_rows' (told b 0)
+lines_unique n m bytes a b rows xs class_rows rows' ys class_rows' p q =
     let room = answer_room a (get_or xs 0 0) (p 0 (omega arith)) in
     let (t, l, l') = answered_unique n bytes (replicate 32768 0) (replicate 410 0) 0 (p 0 (omega arith)) (q 0 (omega arith)) in
     let same : a ≡ b = told_injective a b (get_or xs 0 0) (get_or ys 0 0) t in
@@ -69,11 +69,11 @@ pub printed_unique : {text lines other : List ℕ} → Printed text lines → Pr
 printed_unique (departs e) (departs d) = ap (refusal 10) (refuses_line (sym e ∙ d))
 printed_unique (departs e) (answers b rows ys class_rows d q) = absurd (passes_refuses (sym d ∙ e))
 printed_unique (answers a rows xs class_rows e p) (departs d) = absurd (passes_refuses (sym e ∙ d))
-printed_unique {text} (answers {atoms = n} {bonds = m} a rows xs class_rows e p) (answers {atoms = k} {bonds = l} b rows' ys classRows' d q) =
+printed_unique {text} (answers {atoms = n} {bonds = m} a rows xs class_rows e p) (answers {atoms = k} {bonds = l} b rows' ys class_rows' d q) =
     let atoms : n ≡ k = passes_atoms (sym e ∙ d) in
     let bonds : m ≡ l = passes_bonds (sym e ∙ d) in
-    lines_unique n m (reads text).bytes a b rows xs class_rows rows' ys classRows' p (λ j h. rw atoms (q j h))
-    ∙ ap₂ (λ (x y : ℕ). lines_of x y rows' ys classRows' (told b 0)) atoms bonds
+    lines_unique n m (reads text).bytes a b rows xs class_rows rows' ys class_rows' p (λ j h. rw atoms (q j h))
+    ∙ ap₂ (λ (x y : ℕ). lines_of x y rows' ys class_rows' (told b 0)) atoms bonds
 
 -- So the buffer and the end of what is printed are one each.
 pub listed_unique : {text lent left other : List ℕ} {end end' : ℕ} → Listed text lent left end → Listed text lent other end' → (left ≡ other) × (end ≡ end')

@@ -20,7 +20,7 @@ use Rattle.model.specs.Net.{Net, net_of, bond}
 use Rattle.model.specs.State.{link}
 use Rattle.model.proofs.Ready.{held, Ready, Layered}
 use Rattle.model.proofs.Walks.{Linked, candidate_linked}
-use Rattle.model.proofs.ItemsLists.{∈-each, from_each}
+use Rattle.model.proofs.ItemsLists.{∈_each, from_each}
 use Rattle.paths.specs.Nets.{net}
 use Rattle.members.specs.declared.Written.{Written}
 use Rattle.members.specs.Listed.{nearer, path_sets, sums, member_sets, adj_in, touch_in, layers_in, net_in, Told}
@@ -218,7 +218,7 @@ module _ (c : Compound) (rank pre : ℕ → ℕ) (ready : Ready c rank pre) (us 
       let v = routes_all c rank pre ready us h f.r inside layered d deep made.down_p in
       let w = routes_all c rank pre ready us h f.r inside layered d deep made.down_q in
       let x = pair (link G f) v.way w.way in
-      let here : x ∈ all_pairs = ∈-each (λ v. map (pair (link G f) v) (routes G us d f.q)) v.mem (in_map (pair (link G f) v.way) w.mem) in
+      let here : x ∈ all_pairs = ∈_each (λ v. map (pair (link G f) v) (routes G us d f.q)) v.mem (in_map (pair (link G f) v.way) w.mem) in
       let again : Made c ready.sound rank f d between one.P one.Q x.ring = rw (v.is, w.is) at (made_pair v.way w.way v.mem w.mem) in
       subst (λ (C : ℕ). C ∈ map (λ (x : Pair). x.ring) all_pairs) (made_unique c ready.sound rank again made) (in_map (λ (x : Pair). x.ring) here)
 

@@ -9,7 +9,7 @@ use lib.Bits.{bit_xor, xor_shr, xor_mod}
 use lib.ListN.{length, get_or, take, drop, set as set_at, length-append, length-take, length-drop, length-map, take-append-drop, drop_of_length-le}
 use lib.Seq.{take_all, take_at, drop-append-add, drop-drop, get_or-drop, paste, paste-zero, paste-suc, length-paste, drop-paste}
 use Rattle.bondset.specs.Bytes.{byte_of, bytes_of, of_bytes}
-use Rattle.bondset.proofs.Bytes.{length_bytes_of, get_d_bytes_of, byte_of_of_first}
+use Rattle.bondset.proofs.Bytes.{length_bytes_of, get_or_bytes_of, byte_of_of_first}
 use Rattle.model.specs.Fold.{each}
 use Rattle.members.specs.Listed.{sums, placed, places_at, over}
 
@@ -208,7 +208,7 @@ module _ (set from to : ℕ) (rings₀ : List ℕ) (fits : 12 * (from + 1) ≤ l
       let read : byte_of (of_bytes D) k ≡ get_or rings (12 * from + k) 0 =
       byte_of_of_first 12 D (λ j l. rw get_or-drop (bytes (12 * from + j) (omega arith))) k h ∙ get_or-drop (12 * from) rings₀ k 0 ∙ sym (still rings k h is) in
       let value : bit_xor b (get_or rings (12 * from + k) 0) ≡ get_or mixed k 0 =
-      sym (get_d_bytes_of 12 (bit_xor set (of_bytes D)) k h ∙ byte_xor set (of_bytes D) k ∙ ap₂ bit_xor (sym eb) read) in
+      sym (get_or_bytes_of 12 (bit_xor set (of_bytes D)) k h ∙ byte_xor set (of_bytes D) k ∙ ap₂ bit_xor (sym eb) read) in
       ap₂ (λ (l : List ℕ) (x : ℕ). set_at l (12 * to + k) x) is value
       ∙ paste-suc rings₀ (12 * to) mixed k 0 (omega arith) (omega (arith, long))
       ∙ ap (paste rings₀ (12 * to) mixed) (sym (add-one k))

@@ -19,7 +19,7 @@ use Rattle.model.specs.Net.{Net, net_of, bond}
 use Rattle.model.proofs.Ready.{held, Ready, DownFrom, Layered}
 use Rattle.model.proofs.Layers.{bonded_sym, bond_joins}
 use Rattle.model.proofs.Walks.{mask_has}
-use Rattle.model.proofs.ItemsLists.{∈-each, from_each}
+use Rattle.model.proofs.ItemsLists.{∈_each, from_each}
 use Rattle.model.proofs.ItemsCandidates.{bonded_small, down_small}
 use Rattle.members.specs.Listed.{nearer, path_sets}
 
@@ -195,6 +195,6 @@ module _ (c : Compound) (rank pre : ℕ → ℕ) (ready : Ready c rank pre) (us 
       let g = routes_all e (omega arith) rest in
       record {
         way = longer G t next g.way;
-        mem = ∈-each (λ s. map (longer G t s) (routes G us e s)) (mem_of_bit 64 (nearer G us e t) next (omega (arith, ready.atoms)) near) (in_map (longer G t next) g.mem);
+        mem = ∈_each (λ s. map (longer G t s) (routes G us e s)) (mem_of_bit 64 (nearer G us e t) next (omega (arith, ready.atoms)) near) (in_map (longer G t next) g.mem);
         is = ap (λ (l : List ℕ). t ∷ l) g.is;
       }

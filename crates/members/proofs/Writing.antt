@@ -11,7 +11,7 @@ use lib.Pow.{pow_pos, mod-pow-add}
 use lib.Seq.{drop_at, length-take-le}
 use Rattle.bondset.specs.Bytes.{byte_of, bytes_of, of_first, of_bytes}
 use Rattle.bondset.proofs.Laws.{pos_of_ne, field_word_lo}
-use Rattle.bondset.proofs.Bytes.{length_bytes_of, get_d_bytes_of}
+use Rattle.bondset.proofs.Bytes.{length_bytes_of, get_or_bytes_of}
 use Rattle.model.specs.Fold.{each}
 use Rattle.model.specs.Layer.{ways}
 use Rattle.paths.specs.Nets.{net}
@@ -55,7 +55,7 @@ first_bytes (suc n) s bs h =
 
 pub bytes_read : (s : ℕ) (more : List ℕ) → of_bytes (bytes_of 12 s ++ more) ≡ kept s
 bytes_read s more =
-    first_bytes 12 s (bytes_of 12 s ++ more) (λ j h. get_or-append (bytes_of 12 s) more 0 j (rw length_bytes_of h) ∙ get_d_bytes_of 12 s j h)
+    first_bytes 12 s (bytes_of 12 s ++ more) (λ j h. get_or-append (bytes_of 12 s) more 0 j (rw length_bytes_of h) ∙ get_or_bytes_of 12 s j h)
 
 -- ---- sets that were written are read
 

@@ -30,12 +30,12 @@ use Rattle.model.proofs.Tables.{Apart, family_bond_by_tables, family_atom_by_tab
 
 module _ (c : Compound) (rank pre : ℕ → ℕ) (ready : Ready c rank pre) where
   candidate_deep : {f : Family} {d : ℕ} {link : List ℕ} → Candidate c rank f d link → d ≡ deep f
-  candidate_deep (Candidate.odd less bond underP underQ long) = omega arith
-  candidate_deep (Candidate.even less bondP bondQ underX underP underQ long) = omega arith
+  candidate_deep (Candidate.odd less bond under_p under_q long) = omega arith
+  candidate_deep (Candidate.even less bond_p bond_q under_x under_p under_q long) = omega arith
 
   ends_precede : {f : Family} {d : ℕ} {link : List ℕ} → Candidate c rank f d link → rank f.p < rank f.r
-  ends_precede (Candidate.odd less bond underP underQ long) = underP.0
-  ends_precede (Candidate.even less bondP bondQ underX underP underQ long) = underP.0
+  ends_precede (Candidate.odd less bond under_p under_q long) = under_p.0
+  ends_precede (Candidate.even less bond_p bond_q under_x under_p under_q long) = under_p.0
 
   module _ {f : Family} (kept : Kept c rank f) where
     abbrev link : List ℕ

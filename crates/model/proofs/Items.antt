@@ -21,7 +21,7 @@ use Rattle.model.proofs.Ready.{held, Ready, Layered}
 use Rattle.model.proofs.Layers.{layers_layered}
 use Rattle.model.proofs.Walks.{Given, walk_given}
 use Rattle.model.proofs.Ways.{ways_size}
-use Rattle.model.proofs.ItemsLists.{through_append, through_map, ∈-each, sorted_each, sorted_ascending}
+use Rattle.model.proofs.ItemsLists.{through_append, through_map, ∈_each, sorted_each, sorted_ascending}
 use Rattle.bondset.proofs.Members.{members_climb, mem_of_bit, bit_of_mem}
 use Rattle.model.specs.Candidates.{found}
 use Rattle.model.proofs.ItemsFound.{depth, Of, less_top, found_of, found_sorted, seek_found}
@@ -173,7 +173,7 @@ module _ (c : Compound) (rank pre : ℕ → ℕ) (ready : Ready c rank pre) wher
         let many : 3 ≤ f.long = omega arith in
         let top = prototype_top c rank pre ready kept.prototype many in
         let small = top_named_small c rank pre ready f.r top in
-        ∈-each (candidates k) (mem_of_bit 64 (tops G pre) f.r (omega (arith, ready.atoms)) top)
+        ∈_each (candidates k) (mem_of_bit 64 (tops G pre) f.r (omega (arith, ready.atoms)) top)
         (subst (λ (j : ℕ). f ∈ candidates j f.r) e (candidate_under c rank pre ready kept.prototype.candidate many))
 
     -- They are all that may be kept, in order.

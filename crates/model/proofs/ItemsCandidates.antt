@@ -89,12 +89,12 @@ module _ (c : Compound) (rank pre : ℕ → ℕ) (ready : Ready c rank pre) wher
     even_candidate {k} {d} {e} h next long (Even.even {x} {p} {q} here i j) =
         let up = (above_has (bit_and (nbrs G x) (at r d)) p q).0 j in
         let at_p = (and_has (nbrs G x) (at r d) p).0 i in
-        let atQ = (and_has (nbrs G x) (at r d) q).0 up.1 in
+        let at_q = (and_has (nbrs G x) (at r d) q).0 up.1 in
         let down = (layer_down c rank pre (held ready) r x (suc d) small).0 (subst (λ (y : ℕ). bit (at r y) x ≡ 1) next here) in
         let near : (t : ℕ) → bit (nbrs G x) t ≡ 1 → Bonded c x t = λ t. (nbrs_bonded c rank pre (held ready) x t (down_small down.1 (omega arith))).0 in (
           p ∷ x ∷ q ∷ [],
-          Candidate.even up.0 (bonded_sym c rank pre (held ready) (near p at_p.0)) (near q atQ.0) (under_of (omega arith) down)
-              (under_of h ((layer_down c rank pre (held ready) r p d small).0 at_p.1)) (under_of h ((layer_down c rank pre (held ready) r q d small).0 atQ.1)) long,
+          Candidate.even up.0 (bonded_sym c rank pre (held ready) (near p at_p.0)) (near q at_q.0) (under_of (omega arith) down)
+              (under_of h ((layer_down c rank pre (held ready) r p d small).0 at_p.1)) (under_of h ((layer_down c rank pre (held ready) r q d small).0 at_q.1)) long,
         )
 
     -- All that is found under r is a candidate.
@@ -122,49 +122,49 @@ module _ (c : Compound) (rank pre : ℕ → ℕ) (ready : Ready c rank pre) wher
     odd_under {k} {p} {q} h odd less bond down_p down_q =
         let u = at r (k / 2) in
         let at_p = (layer_down c rank pre (held ready) r p (k / 2) small).1 down_p in
-        let atQ = (layer_down c rank pre (held ready) r q (k / 2) small).1 down_q in
-        let smallP = bonded_small bond in
-        let near = (nbrs_bonded c rank pre (held ready) p q smallP).1 bond in
+        let at_q = (layer_down c rank pre (held ready) r q (k / 2) small).1 down_q in
+        let small_p = bonded_small bond in
+        let near = (nbrs_bonded c rank pre (held ready) p q small_p).1 bond in
         rw (eq-eqb (k % 2) 1 odd)
-        (odds_have G k r u p q (atoms_64 smallP) (atoms_64 (bonded_small (bonded_sym c rank pre (held ready) bond))) at_p
-        ((and_has (above u p) (nbrs G p) q).1 ((above_has u p q).1 (less, atQ), near)))
+        (odds_have G k r u p q (atoms_64 small_p) (atoms_64 (bonded_small (bonded_sym c rank pre (held ready) bond))) at_p
+        ((and_has (above u p) (nbrs G p) q).1 ((above_has u p q).1 (less, at_q), near)))
 
     even_under : {k x p q : ℕ} → (k % 2 ≡ 1 → ⊥) → p < q → Bonded c p x → Bonded c x q → DownFrom c rank r x (k / 2)
         → DownFrom c rank r p (k / 2 - 1) → DownFrom c rank r q (k / 2 - 1) → fam k r x p q ∈ under k r
     unfolding found
-    even_under {k} {x} {p} {q} other less bondP bondQ downX down_p down_q =
+    even_under {k} {x} {p} {q} other less bond_p bond_q down_x down_p down_q =
         let below = at r (k / 2 - 1) in
         let ps = bit_and (nbrs G x) below in
-        let smallX = bonded_small bondQ in
-        let atX = (layer_down c rank pre (held ready) r x (k / 2) small).1 downX in
+        let small_x = bonded_small bond_q in
+        let at_x = (layer_down c rank pre (held ready) r x (k / 2) small).1 down_x in
         let at_p = (layer_down c rank pre (held ready) r p (k / 2 - 1) small).1 down_p in
-        let atQ = (layer_down c rank pre (held ready) r q (k / 2 - 1) small).1 down_q in
-        let nearP = (nbrs_bonded c rank pre (held ready) x p smallX).1 (bonded_sym c rank pre (held ready) bondP) in
-        let near_q = (nbrs_bonded c rank pre (held ready) x q smallX).1 bondQ in
+        let at_q = (layer_down c rank pre (held ready) r q (k / 2 - 1) small).1 down_q in
+        let near_p = (nbrs_bonded c rank pre (held ready) x p small_x).1 (bonded_sym c rank pre (held ready) bond_p) in
+        let near_q = (nbrs_bonded c rank pre (held ready) x q small_x).1 bond_q in
         rw (ne_eqb (k % 2) 1 other)
-        (evens_have G k r (at r (k / 2)) below x p q (atoms_64 smallX) (atoms_64 (bonded_small bondP)) (atoms_64 (bonded_small (bonded_sym c rank pre (held ready) bondQ))) atX
-        ((and_has (nbrs G x) below p).1 (nearP, at_p)) ((above_has ps p q).1 (less, (and_has (nbrs G x) below q).1 (near_q, atQ))))
+        (evens_have G k r (at r (k / 2)) below x p q (atoms_64 small_x) (atoms_64 (bonded_small bond_p)) (atoms_64 (bonded_small (bonded_sym c rank pre (held ready) bond_q))) at_x
+        ((and_has (nbrs G x) below p).1 (near_p, at_p)) ((above_has ps p q).1 (less, (and_has (nbrs G x) below q).1 (near_q, at_q))))
 
   -- ---- the families kept
 
   deep : {f : Family} {d : ℕ} {between : List ℕ} → Candidate c rank f d between → 3 ≤ f.long → 0 < d
-  deep (Candidate.odd less bond underP underQ long) h = omega arith
-  deep (Candidate.even less bondP bondQ underX underP underQ long) h = omega arith
+  deep (Candidate.odd less bond under_p under_q long) h = omega arith
+  deep (Candidate.even less bond_p bond_q under_x under_p under_q long) h = omega arith
 
   -- All candidates are found under their top atom.
   pub candidate_under : {f : Family} {d : ℕ} {between : List ℕ} → Candidate c rank f d between → 3 ≤ f.long → f ∈ under f.long f.r
-  candidate_under (Candidate.odd {r} {p} {q} {d} {k} less bond underP underQ long) h =
+  candidate_under (Candidate.odd {r} {p} {q} {d} {k} less bond under_p under_q long) h =
       let same : d ≡ k / 2 = omega arith in
       let deep : 0 < d = omega arith in
-      let small = top_named underP.1.1 (down_small underP.1.1 deep) in
-      odd_under r small (omega arith) (omega arith) less bond (subst (λ (e : ℕ). DownFrom c rank r p e) same underP.1)
-      (subst (λ (e : ℕ). DownFrom c rank r q e) same underQ.1)
-  candidate_under (Candidate.even {r} {p} {q} {x} {d} {k} less bondP bondQ underX underP underQ long) h =
+      let small = top_named under_p.1.1 (down_small under_p.1.1 deep) in
+      odd_under r small (omega arith) (omega arith) less bond (subst (λ (e : ℕ). DownFrom c rank r p e) same under_p.1)
+      (subst (λ (e : ℕ). DownFrom c rank r q e) same under_q.1)
+  candidate_under (Candidate.even {r} {p} {q} {x} {d} {k} less bond_p bond_q under_x under_p under_q long) h =
       let same : d ≡ k / 2 - 1 = omega arith in
       let next : suc d ≡ k / 2 = omega arith in
-      let small = top_named underX.1.1 (bonded_small bondQ) in
-      even_under r small (λ (o : k % 2 ≡ 1). omega arith) less bondP bondQ (subst (λ (e : ℕ). DownFrom c rank r x e) next underX.1)
-      (subst (λ (e : ℕ). DownFrom c rank r p e) same underP.1) (subst (λ (e : ℕ). DownFrom c rank r q e) same underQ.1)
+      let small = top_named under_x.1.1 (bonded_small bond_q) in
+      even_under r small (λ (o : k % 2 ≡ 1). omega arith) less bond_p bond_q (subst (λ (e : ℕ). DownFrom c rank r x e) next under_x.1)
+      (subst (λ (e : ℕ). DownFrom c rank r p e) same under_p.1) (subst (λ (e : ℕ). DownFrom c rank r q e) same under_q.1)
 
   net_n : (net_of c).n ≡ c.n
   unfolding net_of

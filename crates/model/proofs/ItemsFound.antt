@@ -16,7 +16,7 @@ use Rattle.model.specs.Fold.{through}
 use Rattle.model.specs.Net.{Net, nbrs}
 use Rattle.model.specs.Loops.{above, fam, partners, odd_loop, tip_loop, even_loop, seek}
 use Rattle.model.specs.Candidates.{pairs, odds, tips, evens, found}
-use Rattle.model.proofs.ItemsLists.{through_each, ∈-each, from_each, Sorted, sorted_each}
+use Rattle.model.proofs.ItemsLists.{through_each, ∈_each, from_each, Sorted, sorted_each}
 use Rattle.bondset.proofs.Members.{members_climb, mem_of_bit, bit_of_mem}
 
 -- The steps from p and q to the top, for length k.
@@ -90,24 +90,24 @@ module _ (G : Net) (k r : ℕ) where
 
   pairs_have : {x p q : ℕ} (qs : ℕ) → q < 64 → bit qs q ≡ 1 → fam k r x p q ∈ pairs G k r x p qs
   unfolding pairs
-  pairs_have {x} {p} {q} qs small e = ∈-each (λ q. fam k r x p q ∷ []) (mem_of_bit 64 qs q small e) first
+  pairs_have {x} {p} {q} qs small e = ∈_each (λ q. fam k r x p q ∷ []) (mem_of_bit 64 qs q small e) first
 
   -- All that is found for odd lengths is in `odds`.
   pub odds_have : (u p q : ℕ) → p < 64 → q < 64 → bit u p ≡ 1 → bit (bit_and (above u p) (nbrs G p)) q ≡ 1 → fam k r 255 p q ∈ odds G k r u
   unfolding odds
   odds_have u p q hp hq e h =
-      ∈-each (λ p. pairs G k r 255 p (bit_and (above u p) (nbrs G p))) (mem_of_bit 64 u p hp e) (pairs_have (bit_and (above u p) (nbrs G p)) hq h)
+      ∈_each (λ p. pairs G k r 255 p (bit_and (above u p) (nbrs G p))) (mem_of_bit 64 u p hp e) (pairs_have (bit_and (above u p) (nbrs G p)) hq h)
 
   tips_have : (x ps p q : ℕ) → p < 64 → q < 64 → bit ps p ≡ 1 → bit (above ps p) q ≡ 1 → fam k r x p q ∈ tips G k r x ps
   unfolding tips
-  tips_have x ps p q hp hq e h = ∈-each (λ p. pairs G k r x p (above ps p)) (mem_of_bit 64 ps p hp e) (pairs_have (above ps p) hq h)
+  tips_have x ps p q hp hq e h = ∈_each (λ p. pairs G k r x p (above ps p)) (mem_of_bit 64 ps p hp e) (pairs_have (above ps p) hq h)
 
   -- All that is found for even lengths is in `evens`.
   pub evens_have : (u below x p q : ℕ) → x < 64 → p < 64 → q < 64 → bit u x ≡ 1 → bit (bit_and (nbrs G x) below) p ≡ 1
       → bit (above (bit_and (nbrs G x) below) p) q ≡ 1 → fam k r x p q ∈ evens G k r u below
   unfolding evens
   evens_have u below x p q hx hp hq e h i =
-      ∈-each (λ x. tips G k r x (bit_and (nbrs G x) below)) (mem_of_bit 64 u x hx e) (tips_have x (bit_and (nbrs G x) below) p q hp hq h i)
+      ∈_each (λ x. tips G k r x (bit_and (nbrs G x) below)) (mem_of_bit 64 u x hx e) (tips_have x (bit_and (nbrs G x) below) p q hp hq h i)
 
   odd_of : {u : ℕ} {f : Family} → Odd u f → Of k r f
   odd_of (odd e h) = of

@@ -37,10 +37,10 @@ module _ {C S : Type 0} (step : C → S → S) where
 
 module _ {A C : Type 0} (f : A → List C) where
   -- What is in one of the lists is in all of them together.
-  pub ∈-each : {x : C} {a : A} {over : List A} → a ∈ over → x ∈ f a → x ∈ each f over
+  pub ∈_each : {x : C} {a : A} {over : List A} → a ∈ over → x ∈ f a → x ∈ each f over
   unfolding each
-  ∈-each (first {xs}) m = in_left (each f xs) m
-  ∈-each (later {y} h) m = in_right (f y) (∈-each h m)
+  ∈_each (first {xs}) m = in_left (each f xs) m
+  ∈_each (later {y} h) m = in_right (f y) (∈_each h m)
 
   -- The list that x comes from.
   pub record From (over : List A) (x : C) : Type 0 where

@@ -21,15 +21,15 @@ use Rattle.cycles.proofs.Members.{relevant_in_family}
 use Rattle.cycles.proofs.PathsDecide.{joins_sym}
 use Rattle.cycles.proofs.PathsDown.{down_first}
 
-get_d_in : (xs : List ℕ) (i : ℕ) → i < length xs → get_or xs i 0 ∈ xs
-get_d_in [] i h = absurd (omega arith)
-get_d_in (x ∷ xs) zero h = ◌∈◌.first
-get_d_in (x ∷ xs) (suc i) h = ◌∈◌.later (get_d_in xs i (omega arith))
+get_or_in : (xs : List ℕ) (i : ℕ) → i < length xs → get_or xs i 0 ∈ xs
+get_or_in [] i h = absurd (omega arith)
+get_or_in (x ∷ xs) zero h = ◌∈◌.first
+get_or_in (x ∷ xs) (suc i) h = ◌∈◌.later (get_or_in xs i (omega arith))
 
 once_differ : {xs : List ℕ} → Once xs → (i j : ℕ) → i < length xs → j < i → get_or xs j 0 ≢ get_or xs i 0
 once_differ Once.none i j h l e = omega arith
 once_differ (Once.more n o) zero j h l e = omega arith
-once_differ (Once.more {xs = xs} n o) (suc i) zero h l e = n (subst (λ (y : ℕ). y ∈ xs) (sym e) (get_d_in xs i (omega arith)))
+once_differ (Once.more {xs = xs} n o) (suc i) zero h l e = n (subst (λ (y : ℕ). y ∈ xs) (sym e) (get_or_in xs i (omega arith)))
 once_differ (Once.more n o) (suc i) (suc j) h l e = once_differ o i j (omega arith) (omega arith) e
 
 module _ (c : Compound) (sound : Sound c) where
@@ -38,7 +38,7 @@ module _ (c : Compound) (sound : Sound c) where
   edges_atoms (Edges.more {k = k} j e t) h = All.cons h (edges_atoms e (sound.named k _ _ (joins_sym c j)))
 
   once_few : {xs : List ℕ} → Once xs → All (λ a. a < c.n) xs → length xs ≤ c.n
-  once_few {xs} o a = pigeonhole (λ i. get_or xs i 0) c.n (length xs) (λ i h. all_element a (get_d_in xs i h)) (once_differ o)
+  once_few {xs} o a = pigeonhole (λ i. get_or xs i 0) c.n (length xs) (λ i h. all_element a (get_or_in xs i h)) (once_differ o)
 
   around_few : {C r : ℕ} → Around c sound C r → (3 ≤ len c C) × (len c C ≤ c.n)
   around_few {r = r} a =

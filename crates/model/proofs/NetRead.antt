@@ -30,8 +30,8 @@ through_count step P end more from (suc k) s e p = through_count step P end more
 abbrev pub zeros : ℕ → List ℕ
 zeros n = replicate n 0
 
-pub get_d_zeros : (n i : ℕ) → get_or (zeros n) i 0 ≡ 0
-get_d_zeros n i =
+pub get_or_zeros : (n i : ℕ) → get_or (zeros n) i 0 ≡ 0
+get_or_zeros n i =
     ⊎_elim (λ (h : i < n). get_or-replicate {A = ℕ} n i 0 0 h)
     (λ (h : n ≤ i). get_or-eq_default (zeros n) 0 (rw length-replicate h)) (lt_or_ge i n)
 
@@ -83,9 +83,9 @@ module _ (c : Compound) (sound : Sound c) (atoms : c.n ≤ 64) where
   near_none : Near c 0 (zeros 64)
   near_none = record {
     size = length-replicate {A = ℕ} 64 0;
-    bonded = λ a b h. absurd (omega (arith, h, ap (λ (x : ℕ). bit x b) (get_d_zeros 64 a), zero_bit b));
+    bonded = λ a b h. absurd (omega (arith, h, ap (λ (x : ℕ). bit x b) (get_or_zeros 64 a), zero_bit b));
     all = λ j a b h. absurd (omega arith);
-    small = λ a. rw (get_d_zeros 64 a) (pow_pos c.n);
+    small = λ a. rw (get_or_zeros 64 a) (pow_pos c.n);
   }
 
   near_more : (k : ℕ) (adj : List ℕ) → k < m c → Near c k adj → Near c (suc k) (read_adj c k adj)
@@ -153,7 +153,7 @@ toggled s k j new = go (ℕ_discrete j k)
 
 row_zeros : (n i : ℕ) → row_at (zeros n) i ≡ 0
 unfolding row_at
-row_zeros n i = ap₂ (λ (x y : ℕ). x * 2 ^ 64 + y) (get_d_zeros n (2 * i + 1)) (get_d_zeros n (2 * i))
+row_zeros n i = ap₂ (λ (x y : ℕ). x * 2 ^ 64 + y) (get_or_zeros n (2 * i + 1)) (get_or_zeros n (2 * i))
 
 -- Atom a is an end of bond k.
 abbrev pub End : Compound → ℕ → ℕ → Type 0

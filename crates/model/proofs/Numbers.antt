@@ -49,7 +49,7 @@ module _ (c : Compound) (rank pre : ℕ → ℕ) (ready : Ready c rank pre) wher
       → length S + length M ≤ 82 → length labels ≡ 82 → length holds ≡ 82 → length table ≡ length firsts → All (λ f. f.long < k) firsts
       → Numbered k S M es labels holds table firsts
   unfolding classed
-  classes_numbered k S M tries es labels holds table firsts steps long indep spans near fits labelRoom holdRoom same older =
+  classes_numbered k S M tries es labels holds table firsts steps long indep spans near fits label_room hold_room same older =
       record {
         new = news lab es;
         classes =
@@ -59,14 +59,14 @@ module _ (c : Compound) (rank pre : ℕ → ℕ) (ready : Ready c rank pre) wher
         table_is = table_new;
         above = above_firsts;
         long = news_long lab longs;
-        room = done.room ∙ sym labelRoom;
+        room = done.room ∙ sym label_room;
       }
     where
       lab : ℕ → ℕ
       lab = label_of (through (label (length S)) es labels)
 
       ended : Ended c rank pre ready k S [] labels M (through (label (length S)) es labels) es
-      ended = steps_ended c rank pre ready k S indep spans steps long (inv_start c k S indep spans labels) labelRoom fits
+      ended = steps_ended c rank pre ready k S indep spans steps long (inv_start c k S indep spans labels) label_room fits
 
       least : Least (length S) (length M) lab
       least = ended.inv.least
@@ -89,7 +89,7 @@ module _ (c : Compound) (rank pre : ℕ → ℕ) (ready : Ready c rank pre) wher
       done : Upto k (length S) (length M) lab (map row_of es) (through hold es holds) table 82 (length S + length M) numbers
       done =
           upto_all k (length S) (length M) lab (map row_of es) (through hold es holds) table 82 least named fits (length S) (length M) start (omega arith) refl
-          (upto_start k (length S) (length M) lab (map row_of es) (through hold es holds) table 82 start (λ j h t. refl) (ended.room ∙ labelRoom) refl)
+          (upto_start k (length S) (length M) lab (map row_of es) (through hold es holds) table 82 start (λ j h t. refl) (ended.room ∙ label_room) refl)
 
       rows : List Row
       rows = map (classed numbers.labels) (map row_of es)

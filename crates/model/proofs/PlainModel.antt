@@ -128,9 +128,9 @@ module _ (c : Compound) (v : ℕ) (pre : ℕ → ℕ) (held : Held c (is v) pre)
             Computed.empty (not_both_set u y u z W n)
             (λ T t e.
             let w = ring_ends c held.sound joins t in
-            let dY : w.d ≡ d = omega (arith, w.long, e, w.near.0, w.near.1) in
-            let dZ : w.e ≡ d = omega (arith, w.long, e, w.near.0, w.near.1) in
-            n ((in_layer d y l).1 (subst (Distance c y v) dY w.far_y)) ((in_layer d z l).1 (subst (Distance c z v) dZ w.far_z)))
+            let d_y : w.d ≡ d = omega (arith, w.long, e, w.near.0, w.near.1) in
+            let d_z : w.e ≡ d = omega (arith, w.long, e, w.near.0, w.near.1) in
+            n ((in_layer d y l).1 (subst (Distance c y v) d_y w.far_y)) ((in_layer d z l).1 (subst (Distance c z v) d_z w.far_z)))
 
         go : Dec (bit u y ≡ 1) → Dec (bit u z ≡ 1) → Computed c v (suc (d + d)) j (cond (has u y && has u z) W 0)
         go (yes e) (yes f) =
@@ -240,13 +240,13 @@ module _ (c : Compound) (v : ℕ) (pre : ℕ → ℕ) (held : Held c (is v) pre)
           sides : {k : ℕ} (w : Ends c held.sound v y z k) → k ≡ suc (d + suc d) → ⊥
           sides w e = elim (lt_or_ge w.d w.e) [
             | inl less ↦
-                let dY : w.d ≡ d = omega (arith, w.long, e, w.near.1, less) in
-                let dZ : w.e ≡ suc d = omega (arith, w.long, e, w.near.1, less) in
-                a (subst (Distance c y v) dY w.far_y) (subst (Distance c z v) dZ w.far_z)
+                let d_y : w.d ≡ d = omega (arith, w.long, e, w.near.1, less) in
+                let d_z : w.e ≡ suc d = omega (arith, w.long, e, w.near.1, less) in
+                a (subst (Distance c y v) d_y w.far_y) (subst (Distance c z v) d_z w.far_z)
             | inr more ↦
-                let dY : w.d ≡ suc d = omega (arith, w.long, e, w.near.0, more) in
-                let dZ : w.e ≡ d = omega (arith, w.long, e, w.near.0, more) in
-                b (subst (Distance c z v) dZ w.far_z) (subst (Distance c y v) dY w.far_y)
+                let d_y : w.d ≡ suc d = omega (arith, w.long, e, w.near.0, more) in
+                let d_z : w.e ≡ d = omega (arith, w.long, e, w.near.0, more) in
+                b (subst (Distance c z v) d_z w.far_z) (subst (Distance c y v) d_y w.far_y)
           ]
 
       even_first : Distance c y v d → Distance c z v (suc d) → Computed c v (suc (d + suc d)) j S

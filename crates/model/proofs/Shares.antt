@@ -25,7 +25,7 @@ use Rattle.cycles.proofs.ThroughRows.{MemberWith}
 use Rattle.cycles.proofs.ThroughFamily.{bond_share_lem, link_bond_share, bond_cases, atom_share_lem, top_share, link_atom_share, atom_cases}
 use Rattle.model.specs.Net.{Net, net_of}
 use Rattle.model.specs.Layer.{ways}
-use Rattle.model.specs.Through.{upways, pair, pairs_of, ends as endsOf, reaching, step_share, in_link, bond_share, layer_share, atom_share}
+use Rattle.model.specs.Through.{upways, pair, pairs_of, ends as ends_of, reaching, step_share, in_link, bond_share, layer_share, atom_share}
 use Rattle.model.proofs.Ready.{held, Ready, DownFrom, Layered}
 use Rattle.model.proofs.Layers.{layer_down}
 use Rattle.model.proofs.Ways.{all_down, ends, ways_size}
@@ -83,12 +83,12 @@ module _ (c : Compound) (rank pre : ℕ → ℕ) (ready : Ready c rank pre) (us 
   different = go candidate
     where
       go : {f : Family} {d : ℕ} {link : List ℕ} → Candidate c rank f d link → f.p ≡ f.q → ⊥
-      go (Candidate.odd less bond underP underQ long) e = omega (arith, e)
-      go (Candidate.even less bondP bondQ underX underP underQ long) e = omega (arith, e)
+      go (Candidate.odd less bond under_p under_q long) e = omega (arith, e)
+      go (Candidate.even less bond_p bond_q under_x under_p under_q long) e = omega (arith, e)
 
   -- The start at p and at q, apart.
-  ends_are : (t : ℕ) → endsOf G us d f t ≡ at f.p t * ways G us d f.q + at f.q t * ways G us d f.p
-  unfolding endsOf
+  ends_are : (t : ℕ) → ends_of G us d f t ≡ at f.p t * ways G us d f.q + at f.q t * ways G us d f.p
+  unfolding ends_of
   ends_are t = go (ℕ_discrete f.p t) (ℕ_discrete f.q t)
     where
       go : Dec (f.p ≡ t) → Dec (f.q ≡ t)
@@ -103,7 +103,7 @@ module _ (c : Compound) (rank pre : ℕ → ℕ) (ready : Ready c rank pre) (us 
       → reaching G us d f e t
       ≡ upways G us (at f.p) (d - e) e t * ways G us d f.q + upways G us (at f.q) (d - e) e t * ways G us d f.p
   unfolding reaching
-  reaching_is e t = upways_linear G us (endsOf G us d f) (at f.p) (at f.q) (ways G us d f.q) (ways G us d f.p) ends_are (d - e) e t
+  reaching_is e t = upways_linear G us (ends_of G us d f) (at f.p) (at f.q) (ways G us d f.q) (ways G us d f.p) ends_are (d - e) e t
 
   share_is : (e t w : ℕ)
       → upways G us (at f.p) (d - e) e t * w * ways G us d f.q + upways G us (at f.q) (d - e) e t * w * ways G us d f.p
@@ -138,8 +138,8 @@ module _ (c : Compound) (rank pre : ℕ → ℕ) (ready : Ready c rank pre) (us 
   layers_some = go candidate
     where
       go : {f : Family} {d : ℕ} {link : List ℕ} → Candidate c rank f d link → 0 < d
-      go (Candidate.odd less bond underP underQ long) = down_some c rank underP.1.1 underP.0
-      go (Candidate.even less bondP bondQ underX underP underQ long) = down_some c rank underP.1.1 underP.0
+      go (Candidate.odd less bond under_p under_q long) = down_some c rank under_p.1.1 under_p.0
+      go (Candidate.even less bond_p bond_q under_x under_p under_q long) = down_some c rank under_p.1.1 under_p.0
 
   -- ---- bonds
 
@@ -192,12 +192,12 @@ module _ (c : Compound) (rank pre : ℕ → ℕ) (ready : Ready c rank pre) (us 
             → Tells (Uses c k link)
             (cond (eqb f.x 255) (pair f.p f.q (one c k) (other c k))
             (pair f.p f.x (one c k) (other c k) || pair f.x f.q (one c k) (other c k)))
-        go (Candidate.odd {p = p} {q = q} less bond underP underQ long) =
+        go (Candidate.odd {p = p} {q = q} less bond under_p under_q long) =
             subst (λ (b : Bool). Tells (Uses c k (p ∷ q ∷ []))
             (cond b (pair p q (one c k) (other c k)) (pair p 255 (one c k) (other c k) || pair 255 q (one c k) (other c k))))
             (sym (eq-eqb 255 255 refl)) (tells_same Uses.here uses_two (pair_tells p q))
-        go (Candidate.even {p = p} {q = q} {x = x} less bondP bondQ underX underP underQ long) =
-            let named : x < c.n = bonded_small c rank pre ready bondQ in
+        go (Candidate.even {p = p} {q = q} {x = x} less bond_p bond_q under_x under_p under_q long) =
+            let named : x < c.n = bonded_small c rank pre ready bond_q in
             subst (λ (b : Bool). Tells (Uses c k (p ∷ x ∷ q ∷ []))
             (cond b (pair p q (one c k) (other c k)) (pair p x (one c k) (other c k) || pair x q (one c k) (other c k))))
             (sym (ne_eqb x 255 (omega (arith, ready.atoms))))
@@ -298,22 +298,22 @@ module _ (c : Compound) (rank pre : ℕ → ℕ) (ready : Ready c rank pre) (us 
     link_atom = go candidate
       where
         go : {f : Family} {d : ℕ} {link : List ℕ} → Candidate c rank f d link → t ∈ link → (DownFrom c rank f.r t d) ⊎ (f.x ≡ t)
-        go (Candidate.odd {r = r} {d = d} less bond underP underQ long) ◌∈◌.first = inl underP.1
-        go (Candidate.odd {r = r} {d = d} less bond underP underQ long) (◌∈◌.later g) =
-            inl (subst (λ (x : ℕ). DownFrom c rank r x d) (in_one g) underQ.1)
-        go (Candidate.even less bondP bondQ underX underP underQ long) ◌∈◌.first = inl underP.1
-        go (Candidate.even less bondP bondQ underX underP underQ long) (◌∈◌.later ◌∈◌.first) = inr refl
-        go (Candidate.even {r = r} {d = d} less bondP bondQ underX underP underQ long) (◌∈◌.later (◌∈◌.later g)) =
-            inl (subst (λ (x : ℕ). DownFrom c rank r x d) (in_one g) underQ.1)
+        go (Candidate.odd {r = r} {d = d} less bond under_p under_q long) ◌∈◌.first = inl under_p.1
+        go (Candidate.odd {r = r} {d = d} less bond under_p under_q long) (◌∈◌.later g) =
+            inl (subst (λ (x : ℕ). DownFrom c rank r x d) (in_one g) under_q.1)
+        go (Candidate.even less bond_p bond_q under_x under_p under_q long) ◌∈◌.first = inl under_p.1
+        go (Candidate.even less bond_p bond_q under_x under_p under_q long) (◌∈◌.later ◌∈◌.first) = inr refl
+        go (Candidate.even {r = r} {d = d} less bond_p bond_q under_x under_p under_q long) (◌∈◌.later (◌∈◌.later g)) =
+            inl (subst (λ (x : ℕ). DownFrom c rank r x d) (in_one g) under_q.1)
 
     -- x, if it is an atom, is of the link, and farther than p and q.
     middle : f.x ≡ t → (t ∈ link) × Distance c t f.r (suc d)
     middle = go candidate
       where
         go : {f : Family} {d : ℕ} {link : List ℕ} → Candidate c rank f d link → f.x ≡ t → (t ∈ link) × Distance c t f.r (suc d)
-        go (Candidate.odd less bond underP underQ long) e = absurd (omega (arith, e, ready.atoms))
-        go (Candidate.even {r = r} {p = p} {q = q} {d = d} less bondP bondQ underX underP underQ long) e =
-            (subst (λ (y : ℕ). t ∈ (p ∷ y ∷ q ∷ [])) (sym e) (◌∈◌.later ◌∈◌.first), subst (λ (y : ℕ). Distance c y r (suc d)) e (down_far c rank underX.1.1))
+        go (Candidate.odd less bond under_p under_q long) e = absurd (omega (arith, e, ready.atoms))
+        go (Candidate.even {r = r} {p = p} {q = q} {d = d} less bond_p bond_q under_x under_p under_q long) e =
+            (subst (λ (y : ℕ). t ∈ (p ∷ y ∷ q ∷ [])) (sym e) (◌∈◌.later ◌∈◌.first), subst (λ (y : ℕ). Distance c y r (suc d)) e (down_far c rank under_x.1.1))
 
     corner_tells : Tells ((f.r ≡ t) ⊎ (f.x ≡ t)) (eqb f.r t || eqb f.x t)
     corner_tells = or_tells (eqb_tells f.r t) (eqb_tells f.x t)

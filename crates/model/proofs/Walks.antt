@@ -199,20 +199,20 @@ module _ (c : Compound) (rank pre : ℕ → ℕ) (ready : Held c rank pre) where
 
   pub candidate_linked : {f : Family} {d : ℕ} {between : List ℕ} → Candidate c rank f d between → Linked f d between
   unfolding link
-  candidate_linked (Candidate.odd {p} {q} less (k, joins) underP underQ long) = record {
-    down_p = underP.1;
-    down_q = underQ.1;
+  candidate_linked (Candidate.odd {p} {q} less (k, joins) under_p under_q long) = record {
+    down_p = under_p.1;
+    down_q = under_q.1;
     ne = λ e. omega arith;
     edges = edges_at c rank (xor_zero_r (2 ^ k) ∙ sym (bond_joins c rank pre ready k p q joins)) (Edges.more joins Edges.point refl);
   }
-  candidate_linked (Candidate.even {p} {q} {x} less (k, joins) (j, joins') underX underP underQ long) =
+  candidate_linked (Candidate.even {p} {q} {x} less (k, joins) (j, joins') under_x under_p under_q long) =
       let named : x < c.n = ready.sound.named j x q joins' in
       let sum : bit_xor (2 ^ k) (bit_xor (2 ^ j) 0) ≡ bit_xor (bond (net_of c) p x) (bond (net_of c) x q) =
       ap (bit_xor (2 ^ k)) (xor_zero_r (2 ^ j)) ∙ sym (ap₂ bit_xor (bond_joins c rank pre ready k p x joins) (bond_joins c rank pre ready j x q joins')) in
       let even : eqb x 255 ≡ false = ne_eqb x 255 (λ e. omega (arith, ready.atoms)) in
       record {
-        down_p = underP.1;
-        down_q = underQ.1;
+        down_p = under_p.1;
+        down_q = under_q.1;
         ne = λ e. omega arith;
         edges = rw even (edges_at c rank sum (Edges.more joins (Edges.more joins' Edges.point refl) refl));
       }
@@ -260,5 +260,5 @@ module _ (c : Compound) (rank pre : ℕ → ℕ) (ready : Held c rank pre) where
           crossing kept =
               let proto = kept.prototype in
               let at_p : a ∈ proto.P = subst (λ (P : List ℕ). a ∈ P) (chosen_same walked.chosen_p proto.chosen_p) i in
-              let atQ : a ∈ proto.Q = subst (λ (Q : List ℕ). a ∈ Q) (chosen_same walked.chosen_q proto.chosen_q) j in
-              below (proto.apart a at_p atQ)
+              let at_q : a ∈ proto.Q = subst (λ (Q : List ℕ). a ∈ Q) (chosen_same walked.chosen_q proto.chosen_q) j in
+              below (proto.apart a at_p at_q)

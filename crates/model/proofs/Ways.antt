@@ -17,7 +17,7 @@ use Rattle.model.specs.Layer.{ways}
 use Rattle.model.proofs.Ready.{held, Ready, DownFrom, Layered}
 use Rattle.model.proofs.Layers.{bonded_sym}
 use Rattle.model.proofs.Walks.{mask_has}
-use Rattle.model.proofs.ItemsLists.{∈-each, from_each}
+use Rattle.model.proofs.ItemsLists.{∈_each, from_each}
 use Rattle.bondset.proofs.Members.{members_climb, mem_of_bit, bit_of_mem}
 use Rattle.model.proofs.ItemsCandidates.{bonded_small, down_small}
 
@@ -141,7 +141,7 @@ module _ (c : Compound) (rank pre : ℕ → ℕ) (ready : Ready c rank pre) wher
     down_downs (suc e) le (Down.step {t} {next} less far bond rest) =
         let near = (mask_has c rank pre (held ready) us r h small layered t next e (bonded_small c rank pre ready bond) (omega arith)).1 (bond, (_, rest)) in
         let named : next < c.n = bonded_small c rank pre ready (bonded_sym c rank pre (held ready) bond) in
-        ∈-each (λ s. ahead t (downs G us e s)) (mem_of_bit 64 (nearer G us e t) next (omega (arith, ready.atoms)) near)
+        ∈_each (λ s. ahead t (downs G us e s)) (mem_of_bit 64 (nearer G us e t) next (omega (arith, ready.atoms)) near)
         (ahead_have t (down_downs e (omega arith) rest))
 
     -- Those are all paths, each once.
@@ -155,8 +155,8 @@ module _ (c : Compound) (rank pre : ℕ → ℕ) (ready : Ready c rank pre) wher
 
   -- Paths lead down from p and from q.
   pub ends : {f : Family} {d : ℕ} {between : List ℕ} → Candidate c rank f d between → DownFrom c rank f.r f.p d × DownFrom c rank f.r f.q d
-  ends (Candidate.odd less bond underP underQ long) = (underP.1, underQ.1)
-  ends (Candidate.even less bondP bondQ underX underP underQ long) = (underP.1, underQ.1)
+  ends (Candidate.odd less bond under_p under_q long) = (under_p.1, under_q.1)
+  ends (Candidate.even less bond_p bond_q under_x under_p under_q long) = (under_p.1, under_q.1)
 
   -- The size of a kept family is the product of the numbers of ways from p and from q.
   pub ways_size : (us : List ℕ) (h d : ℕ) (f : Family) (between : List ℕ) → f.r < c.n → Layered c pre f.r h us → d ≤ h → Candidate c rank f d between

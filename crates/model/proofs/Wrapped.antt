@@ -54,7 +54,7 @@ module _ (w : ℕ) where
     wraps_fits t fits = wraps.places t ∙ mod-eq_of_lt fits
 
   -- A product of places that wraps is the exact product, modulo w.
-  pub wraps_product : {up down exactUp exactDown : List ℕ} → Wraps up exactUp → Wraps down exactDown → (t s : ℕ)
-      → get_or up t 0 * get_or down s 0 % w ≡ get_or exactUp t 0 * get_or exactDown s 0 % w
-  wraps_product {exactUp = exactUp} {exactDown = exactDown} u v t s =
-      ap₂ (λ (x y : ℕ). x * y % w) (u.places t) (v.places s) ∙ mul_mod_both (get_or exactUp t 0) (get_or exactDown s 0) w
+  pub wraps_product : {up down exact_up exact_down : List ℕ} → Wraps up exact_up → Wraps down exact_down → (t s : ℕ)
+      → get_or up t 0 * get_or down s 0 % w ≡ get_or exact_up t 0 * get_or exact_down s 0 % w
+  wraps_product {exact_up = exact_up} {exact_down = exact_down} u v t s =
+      ap₂ (λ (x y : ℕ). x * y % w) (u.places t) (v.places s) ∙ mul_mod_both (get_or exact_up t 0) (get_or exact_down s 0) w

@@ -19,7 +19,7 @@ use Rattle.model.specs.Fold.{through, count}
 use Rattle.model.specs.Net.{near1, touch1, read_adj, read_touch, adj_of, touch_of}
 use Rattle.model.specs.Fault.{Fault, none, fault, or_else, when, first_of, some_below, same_pair, bond_fault}
 use Rattle.model.proofs.NetBits.{or_has, pow_has}
-use Rattle.model.proofs.NetRead.{get_d_zeros, near1_length}
+use Rattle.model.proofs.NetRead.{get_or_zeros, near1_length}
 use Rattle.reading.specs.declared.Verdict.{Verdict}
 use Rattle.reading.specs.declared.Verdict.TheVariants.{Fine, NoAtom, Loop, Again}
 use Rattle.reading.specs.Reading.{fault_of, bonds_read, fault_by, Reading}
@@ -112,7 +112,7 @@ module _ (c : Compound) where
     fine = refl;
     neighbours = refl;
     bonds = refl;
-    joined = λ x y. ap (λ (s : ℕ). has s y) (get_d_zeros 64 x) ∙ ap (λ (b : ℕ). eqb b 1) (zero_bit y);
+    joined = λ x y. ap (λ (s : ℕ). has s y) (get_or_zeros 64 x) ∙ ap (λ (b : ℕ). eqb b 1) (zero_bit y);
   }
 
   module _ (k : ℕ) (adj touch : List ℕ) (sofar : Sofar k adj touch) where

@@ -38,15 +38,15 @@ module _ (n : ℕ) (bytes bytes' : List ℕ) (wrong : WrongBytes (record { n = n
   refused_alike (table.again fits _ _ _ _ _) = absurd (fits.bytes wrong)
   refused_alike (table.pieces fits _ _) = absurd (fits.bytes wrong)
 
-  answered_alike : {rows class_rows rows' classRows' : List ℕ} {i : ℕ} {t : Told} → Answered n bytes rows class_rows i t rows' classRows' → Answered n bytes' rows class_rows i t rows' classRows'
+  answered_alike : {rows class_rows rows' class_rows' : List ℕ} {i : ℕ} {t : Told} → Answered n bytes rows class_rows i t rows' class_rows' → Answered n bytes' rows class_rows i t rows' class_rows'
   answered_alike (answer.by_input r) = answer.by_input (refused_alike r)
   answered_alike (answer.by_rows accepted _ _) = absurd (accepted.fits.bytes wrong)
   answered_alike (answer.by_class_rows accepted _ _ _) = absurd (accepted.fits.bytes wrong)
   answered_alike (answer.by_rings accepted _ _ _ _) = absurd (accepted.fits.bytes wrong)
   answered_alike (answer.in_full accepted _ _ _ _) = absurd (accepted.fits.bytes wrong)
 
-answered_where : (n : ℕ) (bonds : List Bond) (many : Bool) → ltb 96 (length bonds) ≡ many → {rows class_rows rows' classRows' : List ℕ} {i : ℕ} {t : Told}
-    → Answered n (handed_where many bonds) rows class_rows i t rows' classRows' → Answered n (flattened bonds) rows class_rows i t rows' classRows'
+answered_where : (n : ℕ) (bonds : List Bond) (many : Bool) → ltb 96 (length bonds) ≡ many → {rows class_rows rows' class_rows' : List ℕ} {i : ℕ} {t : Told}
+    → Answered n (handed_where many bonds) rows class_rows i t rows' class_rows' → Answered n (flattened bonds) rows class_rows i t rows' class_rows'
 unfolding handed_where
 answered_where n bonds true e a = answered_alike n (0 ∷ []) (flattened bonds) (inl refl) (inr more) a
   where
@@ -54,10 +54,10 @@ answered_where n bonds true e a = answered_alike n (0 ∷ []) (flattened bonds) 
     more = omega (arith, ltb-true 96 (length bonds) e, length_flattened bonds)
 answered_where n bonds false e a = a
 
-pub answered_by : {n : ℕ} {bytes bytes' rows class_rows rows' classRows' : List ℕ} {i : ℕ} {t : Told} → bytes ≡ bytes'
-    → Answered n bytes rows class_rows i t rows' classRows' → Answered n bytes' rows class_rows i t rows' classRows'
-answered_by {n} {rows = rows} {class_rows} {rows'} {classRows'} {i} {t} = subst (λ b. Answered n b rows class_rows i t rows' classRows')
+pub answered_by : {n : ℕ} {bytes bytes' rows class_rows rows' class_rows' : List ℕ} {i : ℕ} {t : Told} → bytes ≡ bytes'
+    → Answered n bytes rows class_rows i t rows' class_rows' → Answered n bytes' rows class_rows i t rows' class_rows'
+answered_by {n} {rows = rows} {class_rows} {rows'} {class_rows'} {i} {t} = subst (λ b. Answered n b rows class_rows i t rows' class_rows')
 
-pub answered_flattened : {n : ℕ} (bonds : List Bond) {bytes rows class_rows rows' classRows' : List ℕ} {i : ℕ} {t : Told} → bytes ≡ handed bonds
-    → Answered n bytes rows class_rows i t rows' classRows' → Answered n (flattened bonds) rows class_rows i t rows' classRows'
+pub answered_flattened : {n : ℕ} (bonds : List Bond) {bytes rows class_rows rows' class_rows' : List ℕ} {i : ℕ} {t : Told} → bytes ≡ handed bonds
+    → Answered n bytes rows class_rows i t rows' class_rows' → Answered n (flattened bonds) rows class_rows i t rows' class_rows'
 answered_flattened {n} bonds e a = answered_where n bonds (ltb 96 (length bonds)) refl (answered_by e a)

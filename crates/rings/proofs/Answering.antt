@@ -83,13 +83,13 @@ families_length c = refl
 zeros : (k : ℕ) → replicate {A = ℕ} k 0 ≡ replicate (length (replicate {A = ℕ} k 0)) 0
 zeros k = rw (length-replicate {A = ℕ} k 0)
 
-module _ {c : Compound} {from : ℕ} {rows class_rows sizes rows' classRows' sizes' : List ℕ} (fits : Fitting c rows class_rows) where
+module _ {c : Compound} {from : ℕ} {rows class_rows sizes rows' class_rows' sizes' : List ℕ} (fits : Fitting c rows class_rows) where
   -- The first run's rows and sizes, copied.
   pub copied_delivered : {got : Going} {out table few : List ℕ} → Reports c from (replicate 128 0) (replicate 40 0) (replicate 16 0) got out table few
       → got.tally.families ≤ 16 → got.tally.classes ≤ 8
-      → rows' ≡ paste rows 0 out (8 * got.tally.families) → classRows' ≡ paste class_rows 0 table (5 * got.tally.classes)
+      → rows' ≡ paste rows 0 out (8 * got.tally.families) → class_rows' ≡ paste class_rows 0 table (5 * got.tally.classes)
       → ((j : ℕ) → j < length sizes → get_or sizes' j 0 ≡ get_or few j 0)
-      → Delivered c from rows class_rows sizes rows' classRows' sizes'
+      → Delivered c from rows class_rows sizes rows' class_rows' sizes'
   copied_delivered {got} {out} {table} {few} first f k a b s =
       let room : (report c).families ≤ length (replicate {A = ℕ} 128 0) / 8 = omega (arith, first.families, length-replicate {A = ℕ} 128 0) in
       let class_room_lem : (report c).classes ≤ length (replicate {A = ℕ} 40 0) / 5 = omega (arith, first.classes, length-replicate {A = ℕ} 40 0) in
@@ -115,8 +115,8 @@ module _ {c : Compound} {from : ℕ} {rows class_rows sizes rows' classRows' siz
 
   -- Another run into the lent buffers.
   pub again_delivered : {got : Going} {cleared : List ℕ} → cleared ≡ replicate (length sizes) 0
-      → Reports c from rows class_rows cleared got rows' classRows' sizes'
-      → Delivered c from rows class_rows sizes rows' classRows' sizes'
+      → Reports c from rows class_rows cleared got rows' class_rows' sizes'
+      → Delivered c from rows class_rows sizes rows' class_rows' sizes'
   again_delivered {cleared = cleared} e again =
       record {
         families = again.rows (omega (arith, fits.families));
@@ -186,15 +186,15 @@ module _ {n : ℕ} {bonds : List ℕ} {from : ℕ} {rows class_rows sizes : List
             answers_many_rings (omega (arith, f, reports.families)) (omega (arith, k, reports.classes)) (counted_over _ _ reports.rings h)
 
     -- The full answer.
-    pub answers_full : {rows' classRows' sizes' : List ℕ} {a : Answer} {got : Going} {out table few out' table' few' : List ℕ}
+    pub answers_full : {rows' class_rows' sizes' : List ℕ} {a : Answer} {got : Going} {out table few out' table' few' : List ℕ}
         → Reports (compound n bonds) from out table few got out' table' few'
         → Fitting (compound n bonds) rows class_rows
-        → Delivered (compound n bonds) from rows class_rows sizes rows' classRows' sizes'
+        → Delivered (compound n bonds) from rows class_rows sizes rows' class_rows' sizes'
         → a ≡ full_of (compound n bonds) got
-        → Answers n bonds from rows class_rows sizes a rows' classRows' sizes'
+        → Answers n bonds from rows class_rows sizes a rows' class_rows' sizes'
     unfolding told full_of
-    answers_full {rows'} {classRows'} {sizes'} {a} {got} reports fits delivered is =
-        subst (λ (a : Answer). Answers n bonds from rows class_rows sizes a rows' classRows' sizes') (sym is)
+    answers_full {rows'} {class_rows'} {sizes'} {a} {got} reports fits delivered is =
+        subst (λ (a : Answer). Answers n bonds from rows class_rows sizes a rows' class_rows' sizes') (sym is)
         (record {
           answered = λ i. (size_of (reported n bonds).rows i, claim i (size_of (reported n bonds).rows i) refl);
           sized = λ j h. claim (from + j) (get_or sizes' j 0) (delivered.sized j h);
@@ -209,14 +209,14 @@ module _ {n : ℕ} {bonds : List ℕ} {from : ℕ} {rows class_rows sizes : List
 
         claim : (i size : ℕ) → size ≡ size_of (reported n bonds).rows i
             → Answered n bonds rows class_rows i
-            (full (cyclomatic (compound n bonds)) got.tally.families got.tally.classes got.tally.total got.rings.rings size) rows' classRows'
+            (full (cyclomatic (compound n bonds)) got.tally.families got.tally.classes got.tally.total got.rings.rings size) rows' class_rows'
         claim i size is =
             rw (is, sym right.cyclomatic_is, reports.families, reports.classes, reports.total, rings, delivered.families, delivered.classes)
             (in_full {R = reported n bonds} accepted right fits.families fits.classes fits.rings)
 
 -- The claim at a row, with its size.
-pub answers_at : {n : ℕ} {bonds : List ℕ} {from : ℕ} {rows class_rows sizes rows' classRows' sizes' : List ℕ} {a : Answer}
-    → Answers n bonds from rows class_rows sizes a rows' classRows' sizes' → (i j : ℕ) → from + j ≡ i → j < length sizes
-    → Answered n bonds rows class_rows i (told a (get_or sizes' j 0)) rows' classRows'
-answers_at {n} {bonds} {from} {rows} {class_rows} {sizes} {rows'} {classRows'} {sizes'} {a} claims i j e h =
-    subst (λ (i : ℕ). Answered n bonds rows class_rows i (told a (get_or sizes' j 0)) rows' classRows') e (claims.sized j h)
+pub answers_at : {n : ℕ} {bonds : List ℕ} {from : ℕ} {rows class_rows sizes rows' class_rows' sizes' : List ℕ} {a : Answer}
+    → Answers n bonds from rows class_rows sizes a rows' class_rows' sizes' → (i j : ℕ) → from + j ≡ i → j < length sizes
+    → Answered n bonds rows class_rows i (told a (get_or sizes' j 0)) rows' class_rows'
+answers_at {n} {bonds} {from} {rows} {class_rows} {sizes} {rows'} {class_rows'} {sizes'} {a} claims i j e h =
+    subst (λ (i : ℕ). Answered n bonds rows class_rows i (told a (get_or sizes' j 0)) rows' class_rows') e (claims.sized j h)

@@ -63,13 +63,13 @@ pub record Fitting (c : Compound) (rows class_rows : List ℕ) : Type 0 where
   pub rings : (report c).rings ≤ most
 
 -- The rows stand over the buffers as lent, and the sizes from a row on are those of the families.
-pub record Delivered (c : Compound) (from : ℕ) (rows class_rows sizes rows' classRows' sizes' : List ℕ) : Type 0 where
+pub record Delivered (c : Compound) (from : ℕ) (rows class_rows sizes rows' class_rows' sizes' : List ℕ) : Type 0 where
   pub families : rows' ≡ over (family_bytes (report c).rows) rows
-  pub classes : classRows' ≡ over (class_bytes (report c).class_rows) class_rows
+  pub classes : class_rows' ≡ over (class_bytes (report c).class_rows) class_rows
   pub sized : (j : ℕ) → j < length sizes → get_or sizes' j 0 ≡ size_of (report c).rows (from + j)
 
 -- The claim of a call for every row number, with the sizes of the rows from one on; in a refusal the sizes stay as lent.
-pub record Answers (n : ℕ) (bonds : List ℕ) (from : ℕ) (rows class_rows sizes : List ℕ) (a : Answer) (rows' classRows' sizes' : List ℕ) : Type 0 where
-  pub answered : AnsweredFirst n bonds rows class_rows (told a) rows' classRows'
-  pub sized : (j : ℕ) → j < length sizes → Answered n bonds rows class_rows (from + j) (told a (get_or sizes' j 0)) rows' classRows'
+pub record Answers (n : ℕ) (bonds : List ℕ) (from : ℕ) (rows class_rows sizes : List ℕ) (a : Answer) (rows' class_rows' sizes' : List ℕ) : Type 0 where
+  pub answered : AnsweredFirst n bonds rows class_rows (told a) rows' class_rows'
+  pub sized : (j : ℕ) → j < length sizes → Answered n bonds rows class_rows (from + j) (told a (get_or sizes' j 0)) rows' class_rows'
   pub kept : (number at : ℕ) → told a 0 ≡ refused number at → sizes' ≡ sizes
