@@ -5,6 +5,7 @@ use Prim.Native.Nat.{ℕ, ◌*◌, ◌<◌, ◌≤◌}
 use native.Mathlib.Omega.{arith}
 use lib.ListN.{length, take, get_or, replicate, length-replicate}
 use lib.Seq.{take-append_seam}
+use Rattle.std.specs.Prelude.{Option, Some, None, IfSome}
 use Rattle.housetext.specs.declared.Text.{Text}
 use Rattle.housetext.specs.declared.Text.TheVariants.{Read, Departs}
 use Rattle.housetext.specs.Text.{Said, passes, refuses, said, Reading, reads, Answers}
@@ -116,3 +117,9 @@ printed_whole {text} p = go p (reads_beginning 4096 text (omega arith))
 -- the program may stop reading after 4,096 bytes
 pub listed_whole : {text lent left : List ℕ} {end : ℕ} → Listed (take 4096 text) lent left end → Listed text lent left end
 listed_whole w = record { lines = w.lines; printed = printed_whole w.printed; wrote = w.wrote }
+
+-- so what is read of an input is enough for it, where the input's bytes are known
+pub listed_input : (known : Option (List ℕ)) {text lent left : List ℕ} {end : ℕ} → IfSome known (λ (bytes : List ℕ). text ≡ take 4096 bytes)
+    → Listed text lent left end → IfSome known (λ (bytes : List ℕ). Listed bytes lent left end)
+listed_input None h w = tt
+listed_input (Some bytes) h w = listed_whole (rw h at w)

@@ -1,10 +1,10 @@
 //! The listing program: house text in, the listing of the compound's ring families out, or a refusal.
 //!
-//! `list` does all of the work on slices; `main` only reads and writes.
+//! `list` does all of the work on slices, and `list_input` on what a reader gives; `main` hands it standard input and prints.
 
 #![tactic(auto)]
 
-ghost use Rattle.std.specs.Prelude.{◌≤◌, ◌+◌, ◌*◌, length, IfOk};
+ghost use Rattle.std.specs.Prelude.{◌≡◌, ◌≤◌, ◌+◌, ◌*◌, length, take, IfOk, IfSome};
 ghost use Rattle.listingtext.specs.Listing.{Wrote};
 ghost use Rattle.rings.specs.Calls.{told};
 ghost use Rattle.listing.specs.Listed.{lines_of, families_in, classes_in, Listed};
@@ -88,9 +88,12 @@ fn list(text: &[u8], out: &mut [u8]) -> usize
     }
 }
 
-// Reads until the buffer is full or the input ends, and answers how many bytes stand at its start.
+// Reads until the buffer is full or the input ends, and answers how many bytes stand at its start. Where the input's bytes are known,
+// they are its first ones, and all that the buffer has room for.
 fn read_full<R: Read>(input: &mut R, buffer: &mut [u8]) -> io::Result<usize>
-    ensures { IfOk result (λ n. n ≤ length buffer.new) }
+    ensures in_bounds { IfOk result (λ n. n ≤ length buffer.new) }
+    ensures beginning { IfOk result (λ n. IfSome (R.remaining input.old)
+        (λ bytes. take n buffer.new ≡ take (length buffer.old) bytes)) }
 {
     let mut done = 0;
     while done < buffer.len() {
@@ -103,12 +106,20 @@ fn read_full<R: Read>(input: &mut R, buffer: &mut [u8]) -> io::Result<usize>
     Ok(done)
 }
 
-// Standard input is read up to 4,096 bytes. What `list` promises of these it promises of the whole input: `listed_whole` in
-// proofs/Lines.antt. An input of more than 3,335 bytes departs, at the same line as they do: `reads_long_beginning` of `housetext`.
-fn main(rt: HostRuntime) -> io::Result<()> {
+// Reads a text, writes what the program prints for it at the start of a buffer, and answers how many bytes it is. The first 4,096 bytes
+// are enough: a text of more than 3,335 departs, at the same line as they do (`reads_long_beginning` of `housetext`).
+fn list_input<R: Read>(input: &mut R, out: &mut [u8]) -> io::Result<usize>
+    requires { 233265 ≤ length out.old }
+    ensures listed { IfOk result (λ end. IfSome (R.remaining input.old) (λ bytes. Listed bytes out.old out.new end)) }
+    ensures upper_bound { IfOk result (λ end. end ≤ 233265) }
+{
     let mut text = [0u8; 4096];
-    let n = read_full(&mut rt.stdin(), &mut text)?;
+    let n = read_full(input, &mut text)?;
+    Ok(list(&text[..n], out))
+}
+
+fn main(rt: HostRuntime) -> io::Result<()> {
     let mut out = [0u8; 233265];
-    let end = list(&text[..n], &mut out);
+    let end = list_input(&mut rt.stdin(), &mut out)?;
     rt.write_all(&out[..end])
 }

@@ -1,9 +1,13 @@
--- `read_full`: each read is of what is left of the buffer.
-use Rattle.std.proofs.Common.{length, ◌-◌, ◌≤◌}
+-- `read_full`: what is done is what was taken off the input, and each read is of what is left of the buffer.
+use Rattle.std.proofs.Common.{length, take, ◌-◌, ◌≤◌}
+use Rattle.std.specs.Io.KnownBytes.{Consumes}
 use Rattle.listing.proofs.read_full.Given as goal
 
 abbrev pub invariant-loop-done : goal.invariant-loop-done
-invariant-loop-done g l = l.done ≤ length l.buffer
+invariant-loop-done g l = record {
+  room : l.done ≤ length l.buffer;
+  taken : Consumes (g.R.Read.remaining l.initial.input) (g.R.Read.remaining l.input) (take l.done l.buffer);
+}
 
 abbrev pub decreases-loop-done : goal.decreases-loop-done
 decreases-loop-done g l = length l.buffer - l.done
