@@ -5,39 +5,22 @@
 
 #![tactic(auto)]
 
-ghost use Rattle.std.specs.Prelude.{◌≡◌, ◌-◌, ◌<◌, ◌≤◌, length};
-ghost use Rattle.std.specs.Int.Bits.{bit_and};
-ghost use Rattle.std.specs.Int.Count.{count_trailing_zeros};
-ghost use Rattle.bondset.specs.Sets.{has};
+ghost use Rattle.std.specs.Prelude.{◌≡◌, ◌<◌, ◌≤◌, length};
 ghost use Rattle.model.specs.Net.{near, preceding};
-ghost use Rattle.model.specs.Loops.{above, two, top_step, tops};
-ghost use Rattle.atoms.specs.Nets.{neighbours, atoms};
+ghost use Rattle.model.specs.Loops.{above, two};
+ghost use Rattle.atoms.specs.Nets.{neighbours};
 
-/// Whether atom `k` is in the set.
-pub fn has(s: u64, k: usize) -> bool
-    ensures { result ≡ has s k }
-{
-    if k < 64 {
-        return (s >> k) & 1 == 1;
-    }
-    false
-}
+use bondset::{Each, WordSet};
 
-/// The lowest atom of the set: 64 if it is empty.
-pub fn lowest(s: u64) -> usize
-    ensures { result ≡ count_trailing_zeros 64 s }
-{
-    u64::trailing_zeros(s) as usize
-}
+mod nets;
 
-/// The set without its lowest atom.
-pub fn others(s: u64) -> u64
-    ensures { result ≡ bit_and s (s - 1) }
+pub use nets::Net;
+
+/// The atoms of the set one by one.
+pub fn each(s: u64) -> Each<u64>
+    ensures { result.rest ≡ s }
 {
-    if s == 0 {
-        return 0;
-    }
-    s & (s - 1)
+    Each::of(s)
 }
 
 /// The atoms of the set above `p`.
@@ -55,7 +38,7 @@ pub fn above(s: u64, p: usize) -> u64
 pub fn two(s: u64) -> bool
     ensures { result ≡ two s }
 {
-    0 < others(s)
+    0 < s.others()
 }
 
 /// All neighbours of the atoms of the set.
@@ -64,10 +47,8 @@ pub fn near(adj: &[u64], s: u64) -> u64
     ensures { result ≡ near (neighbours adj.now) s }
 {
     let mut all: u64 = 0;
-    let mut x = s;
-    while x != 0 {
-        all |= adj[lowest(x)];
-        x = others(x);
+    for a in each(s) {
+        all |= adj[a];
     }
     all
 }
@@ -78,29 +59,4 @@ pub fn preceding(r: usize) -> u64
     ensures { result ≡ preceding r }
 {
     (1u64 << r) - 1
-}
-
-/// The set with `r` added if two or more neighbours of `r` precede it.
-fn top_step(adj: &[u64], r: usize, acc: u64) -> u64
-    requires r_bound { r < 64 }
-    requires in_bounds { 64 ≤ length adj.now }
-    ensures { result ≡ top_step (neighbours adj.now) preceding r acc }
-{
-    if two(adj[r] & preceding(r)) {
-        return acc | (1u64 << r);
-    }
-    acc
-}
-
-/// The atoms that two or more neighbours precede: the only ones that can be top atoms.
-pub fn tops(n: usize, adj: &[u64]) -> u64
-    requires n_bound { n ≤ 64 }
-    requires in_bounds { 64 ≤ length adj.now }
-    ensures { result ≡ tops (atoms n adj.now) preceding }
-{
-    let mut all: u64 = 0;
-    for r in 0..n {
-        all = top_step(adj, r, all);
-    }
-    all
 }

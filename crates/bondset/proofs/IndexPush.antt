@@ -15,12 +15,13 @@ use lib.Count.{count_trailing_zeros}
 use lib.Dec.{eqb}
 use lib.ListN.{length, get_or, set, length-append}
 use lib.Seq.{get_or-set_same, get_or-set_other}
-use Rattle.bondset.specs.Sets.{bit, single}
-use Rattle.bondset.specs.Rows.{row_at, put_row}
+use Rattle.bondset.specs.declared.BondSet.{BondSet}
+use Rattle.bondset.specs.Sets.{bit, single, value}
+use Rattle.bondset.specs.Rows.{row_at, put_row, flat}
 use Rattle.bondset.specs.Reduction.{reduced, used, Reduces, Room, Reduction}
 use Rattle.bondset.specs.Index.{Fresh, Placed, Indexed, Enters, PushesIndexed, held_by, new_in, fresh_pivot}
-use Rattle.bondset.proofs.Laws.{cases2, bit_lt, bit_xor_lem, bit_and_lem, bit_or_lem, xor_besides, bit_pow_same, bit_pow_other, differ_zero, lt_or_ge, pos_of_ne, single_below, trailing, zero_bit}
-use Rattle.bondset.proofs.Rows.{row_same, row_other}
+use Rattle.bondset.proofs.Laws.{cases2, bit_lt, bit_xor_lem, bit_and_lem, bit_or_lem, xor_besides, bit_pow_same, bit_pow_other, differ_zero, lt_or_ge, pos_of_ne, single_below, trailing, zero_bit, words_lt}
+use Rattle.bondset.proofs.Rows.{row_same, row_other, length_flat, put_flat}
 use Rattle.bondset.proofs.ReductionTheorems.{reduction_rest, reduction_push_at}
 use Rattle.bondset.proofs.ReductionLinear.{reduced_lacks}
 use Rattle.bondset.proofs.IndexReduce.{both, not_one}
@@ -323,6 +324,15 @@ indexed_push {rows} {pivots} {place} {rows'} {pivots'} {place'} {fresh} {late} {
         let la : late' ≡ late = p.late_grown ∙ ap (λ (c : Bool). cond c (bit_xor late (single n)) late) e in
         let room : fresh_pivot all rest < length place = omega (arith, b.small) in
         rw (stored, p.pivot_stored, pl, fr, la, p.all_grown) (fresh_row ix rest (fresh_pivot all rest) rows_fit pivots_fit lacks b.holds b.new room)
+
+-- and the same where the rows stand in an array of sets
+pub rows_push : (rows : List BondSet) (n : ℕ) (v : BondSet) {pivots place pivots' place' : List ℕ} {fresh late all fresh' late' all' : ℕ}
+    → v.lo < 2 ^ 64 → v.hi < 2 ^ 64 → n < length rows → n < length pivots → 128 ≤ length place → n < 128
+    → Enters pivots place fresh late all n (value v) pivots' place' fresh' late' all'
+    → Indexed (flat rows) pivots place fresh late all n → (value v ≡ 0 → ⊥) → ((i : ℕ) → i < n → bit (value v) (get_or pivots i 0) ≡ 0)
+    → Indexed (flat (set rows n v)) pivots' place' fresh' late' all' (n + 1)
+rows_push rows n v low high rows_fit pivots_fit place_fit few p ix some lacks =
+    indexed_push (put_flat rows n v low) p (omega (arith, length_flat rows)) (omega arith) place_fit few (words_lt 64 v.hi v.lo high low) ix some lacks
 
 -- for any arrays, no row is indexed at first
 pub indexed_none : (rows pivots place : List ℕ) → Indexed rows pivots place 0 0 0 0

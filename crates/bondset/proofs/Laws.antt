@@ -1,12 +1,14 @@
 -- Laws of bond sets as numbers: membership, equality, sums, lengths, the lowest bond, and the bits of a number of two words.
 use mathlib.Core.Path.{◌≡◌, refl, sym, ap, ap₂, ◌∙◌, subst}
+use mathlib.Core.Bool.{Bool, true, false}
 use mathlib.Core.Logic.{◌⊎◌, inl, inr, ⊎_elim}
 use Prim.Native.Nat.{ℕ, zero, suc, ◌+◌, ◌-◌, ◌*◌, ◌/◌, ◌%◌, ◌^◌, ◌≤◌, ◌<◌, suc-le-suc, min, max}
 use native.Mathlib.Nat.{zero-div, mod-lt, mod-eq_of_lt, zero-lt-suc, le_of_suc-le-suc, not-suc-le-zero, div-eq_of_lt, div_self, lt_of_lt_of_le, mul-mod_left, pow-suc}
 use native.Mathlib.Numerals.{add-one, one-add}
 use native.Mathlib.Omega.{arith}
 use native.Mathlib.Decide.{dec_lt}
-use borrow.Author.Tests.{lt-ltb, le-ltb}
+use borrow.Author.Tests.{lt-ltb, le-ltb, eqb-true, eqb-false}
+use lib.Dec.{eqb}
 use lib.Arith.{digits_lt, bin_ind, digits_mod, lt-one}
 use lib.Pow.{shr_lt, shl-shr, pow_pos, pow-lt, pow_mono, pow-add, high, low, field, mod-pow-add, mod-mod-pow, shr-shr}
 use lib.Bits.{bit_xor, bit_and, bit_or, differ, xor_comm, xor_self, xor_zero_l, xor_zero_r, xor_step, xor_shr, xor_disjoint}
@@ -22,6 +24,13 @@ lt_or_ge m n = elim (dec_lt m n) [ yes p ↦ inl p | no q ↦ inr (omega arith) 
 
 pub pos_of_ne : (n : ℕ) → (n ≡ 0 → ⊥) → 0 < n
 pos_of_ne n h = omega arith
+
+-- a set that the test finds empty, or not empty
+pub empty_set : (s : ℕ) (b : Bool) → b ≡ eqb s 0 → b ≡ true → s ≡ 0
+empty_set s b e h = eqb-true s 0 (sym e ∙ h)
+
+pub some_set : (s : ℕ) (b : Bool) → b ≡ eqb s 0 → b ≡ false → 0 < s
+some_set s b e h = pos_of_ne s (eqb-false s 0 (sym e ∙ h))
 
 -- what holds of 0 and of 1 holds of a bit
 pub cases2 : (P : ℕ → Type 0) → P 0 → P 1 → (x : ℕ) → x < 2 → P x

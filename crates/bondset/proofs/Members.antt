@@ -55,6 +55,10 @@ lt_of_mem (suc n) s k m =
     ⊎_elim (λ (l : k ∈ members n s). omega (arith, lt_of_mem n s k l)) (λ (l : k ∈ if_set (bit s n) n). omega (arith, ∈_if_set_eq (bit s n) l))
     (in_append (members n s) (if_set (bit s n) n) m)
 
+-- the first of the members is below n
+pub first_lt : (n s k : ℕ) (ks : List ℕ) → members n s ≡ k ∷ ks → k < n
+first_lt n s k ks e = lt_of_mem n s k (rw e first)
+
 pub bit_of_mem : (n s k : ℕ) → k ∈ members n s → bit s k ≡ 1
 unfolding members
 bit_of_mem zero s k m = elim m [ ]
@@ -138,6 +142,10 @@ members_step n s p h =
     (members_lowest n s (bit_xor s (2 ^ k)) k t.small (lowest n s p h)
     (bit_xor_lem s (2 ^ k) k ∙ ap₂ differ t.here (bit_pow_same k))
     (λ j ne. bit_xor_lem s (2 ^ k) j ∙ ap (λ (x : ℕ). differ (bit s j) x) (bit_pow_other k j (λ e. ne (sym e))) ∙ differ_zero (bit s j)))
+
+-- the same, of a lowest member and of others that are told
+pub members_split : (n s k r : ℕ) → 0 < s → s < 2 ^ n → k ≡ count_trailing_zeros n s → r ≡ bit_and s (s - 1) → members n s ≡ k ∷ members n r
+members_split n s k r p h e f = members_step n s p h ∙ sym (ap₂ (λ k r. k ∷ members n r) e f)
 
 -- the loop ends
 pub and_pred_lt : (s : ℕ) → 0 < s → bit_and s (s - 1) < s

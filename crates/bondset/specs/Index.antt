@@ -1,6 +1,6 @@
 -- Finding the rows of a reduction by their pivots. Besides rows, tags and pivots there is a place for each bond, and an index of three sets:
 -- `fresh`, pivots that no other row holds; `late`, the numbers of the rows whose pivot is not fresh; `all`, the bonds of all rows.
-use Rattle.std.specs.Prelude.{◌≡◌, cond, ◌⊎◌, List, [], ◌∷◌, ℕ, zero, suc, ◌+◌, ◌<◌, ◌≤◌, eqb, ltb, get_or, set}
+use Rattle.std.specs.Prelude.{◌≡◌, cond, ◌⊎◌, List, [], ◌∷◌, ℕ, zero, suc, ◌+◌, ◌<◌, eqb, ltb, get_or, set}
 use Rattle.std.specs.Int.Bits.{bit_xor, bit_and, bit_or}
 use Rattle.std.specs.Int.Count.{count_trailing_zeros}
 use Rattle.bondset.specs.Sets.{bit, has, single}
@@ -34,12 +34,6 @@ pub record Indexed (rows pivots place : List ℕ) (fresh late all n : ℕ) : Typ
   pub split : (i : ℕ) → i < n → (bit late i ≡ 1) ⊎ Fresh rows pivots place fresh n i
   pub back : (b : ℕ) → bit fresh b ≡ 1 → Placed pivots place late n b
   pub within : (i : ℕ) → bit late i ≡ 1 → i < n
-
--- an index of at least n rows
-pub record Reaches (rows pivots place : List ℕ) (fresh late all n : ℕ) : Type 0 where
-  pub count : ℕ
-  pub enough : n ≤ count
-  pub indexed : Indexed rows pivots place fresh late all count
 
 -- ---- reducing by an index
 
@@ -105,6 +99,10 @@ pub record Enters (pivots place : List ℕ) (fresh late all n rest : ℕ) (pivot
   pub fresh_grown : fresh' ≡ cond (eqb (new_in all rest) 0) fresh (bit_xor fresh (single (fresh_pivot all rest)))
   pub late_grown : late' ≡ cond (eqb (new_in all rest) 0) (bit_xor late (single n)) late
   pub place_stored : place' ≡ cond (eqb (new_in all rest) 0) place (set place (fresh_pivot all rest) n)
+
+-- s holds none of the first n pivots
+pub record Lacks (pivots : List ℕ) (n s : ℕ) : Type 0 where
+  pub lacks : (i : ℕ) → i < n → bit s (get_or pivots i 0) ≡ 0
 
 -- the arrays and the index after the rest of a set, with what was used, is stored as row n
 pub record PushesIndexed (rows tags pivots place : List ℕ) (fresh late all n rest u : ℕ) (rows' tags' pivots' place' : List ℕ) (fresh' late' all' : ℕ)

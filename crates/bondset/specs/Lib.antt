@@ -4,3 +4,4 @@ pub mod Bytes
 pub mod Rows
 pub mod Reduction
 pub mod Index
+pub mod Found

@@ -13,35 +13,21 @@ pub fn copy(to: &mut [u8], bytes: &[u8], count: usize)
     requires count_in_bounds_2 { count ≤ length to.old }
     ensures { to.new ≡ paste to.old 0 bytes.now count }
 {
-    for i in 0..count {
-        to[i] = bytes[i];
-    }
-}
-
-/// Size `j` of those at hand, 0 past the last.
-fn size_at(few: &[u64], j: usize) -> u64
-    ensures { result ≡ get_or few.now j 0 }
-{
-    if j < few.len() {
-        return few[j];
-    }
-    0
+    to[..count].copy_from_slice(&bytes[..count]);
 }
 
 /// Fills `sizes` with the sizes at hand, and with 0 past the last of them.
 pub fn copy_sizes(sizes: &mut [u64], few: &[u64])
     ensures { (j : ℕ) → j < length sizes.old → get_or sizes.new j 0 ≡ get_or few.now j 0 }
 {
-    for j in 0..sizes.len() {
-        sizes[j] = size_at(few, j);
-    }
+    let n = sizes.len().min(few.len());
+    sizes[..n].copy_from_slice(&few[..n]);
+    sizes[n..].fill(0);
 }
 
 /// Fills `sizes` with 0.
 pub fn clear(sizes: &mut [u64])
     ensures { sizes.new ≡ replicate (length sizes.old) 0 }
 {
-    for j in 0..sizes.len() {
-        sizes[j] = 0;
-    }
+    sizes.fill(0);
 }

@@ -1,302 +1,181 @@
 -- What is ahead of a cursor, as the cursor moves.
-use mathlib.Core.Path.{◌≡◌, refl, sym, ap, ◌∙◌}
-use mathlib.Core.Bool.{Bool, true, false, cond, not, true≢false}
-use mathlib.Core.List.{List, [], ◌∷◌, ◌++◌, append-nil, append_assoc}
-use Prim.Native.Nat.{ℕ, ◌-◌, ◌/◌, ◌%◌, ◌^◌, ◌<◌, ◌≤◌}
+use mathlib.Core.Path.{◌≡◌, refl, sym, ap, ap₂, ◌∙◌}
+use mathlib.Core.List.{List, [], ◌∷◌, ◌++◌, append-nil, append_assoc, map}
+use Prim.Native.Nat.{ℕ, ◌-◌, ◌/◌, ◌%◌, ◌<◌, ◌≤◌}
 use native.Mathlib.Omega.{arith}
-use borrow.Author.Tests.{eq-eqb, ne_eqb, eqb-true, eqb-false}
-use lib.Bits.{bit_and, and_le_l, and_le_r}
-use lib.Count.{count_trailing_zeros}
-use lib.Dec.{eqb}
-use lib.ListN.{get_or}
+use borrow.Author.Tests.{eq-eqb, ne_eqb}
+use lib.Bits.{bit_and}
+use lib.ListN.{length, get_or}
+use Rattle.std.proofs.Common.{Option, Some, None, IfSome, Bor}
+use Rattle.std.proofs.lemmas.List.{map-append}
+use Rattle.spans.specs.Elements.{◌∈◌, first, later}
 use Rattle.bondset.specs.Sets.{bit, members}
-use Rattle.bondset.proofs.Laws.{trailing, zero_bit, pos_of_ne}
-use Rattle.bondset.proofs.Members.{members_step, members_zero, and_pred_lt}
-use Rattle.cycles.specs.Family.{Family}
+use Rattle.bondset.proofs.Laws.{length_le}
+use Rattle.bondset.proofs.Members.{members_zero, length_to_members, lt_of_mem, bit_of_mem}
 use Rattle.model.specs.Fold.{each}
 use Rattle.model.specs.Loops.{above, fam}
 use Rattle.model.specs.Net.{Net}
+use Rattle.model.specs.Candidates.{pairs, tips, odds, evens, found}
 use Rattle.model.proofs.NetBits.{and_has}
 use Rattle.model.proofs.ItemsSets.{above_has}
-use Rattle.model.specs.Candidates.{pairs, tips, odds, evens, found}
+use Rattle.model.proofs.ItemsLists.{from_each}
+use Rattle.model.specs.Cross.{cross}
 use Rattle.candidates.specs.declared.cursor.Cursor.{Cursor}
-use Rattle.candidates.specs.Going.{graph}
-use Rattle.candidates.specs.Cursor.{partners_in, ahead, Stood, Sticks, Moves, Follows, Starts, Firsts, Passes}
+use Rattle.candidates.specs.Cursor.{Spot, partners_in, with_q, with_p, with_x, ahead, left, named, Within, Firsts}
 
--- A loop over the atoms of a set, and over none.
-each_step : (f : ℕ → List Family) (s : ℕ) → 0 < s → s < 2 ^ 64
-    → each f (members 64 s) ≡ f (count_trailing_zeros 64 s) ++ each f (members 64 (bit_and s (s - 1)))
-unfolding each
-each_step f s pos word = ap (each f) (members_step 64 s pos word)
+-- ---- the first of a set, and none
 
-each_zero : (f : ℕ → List Family) → each f (members 64 0) ≡ []
-unfolding each
-each_zero f = ap (each f) (members_zero 64)
+module _ (x : Option ℕ) (p qs : ℕ) where
+  q_none : members 64 qs ≡ [] → with_q x p qs ≡ []
+  unfolding with_q each
+  q_none e = rw e refl
 
-pairs_zero : (G : Net) (k r x p : ℕ) → pairs G k r x p 0 ≡ []
-unfolding pairs
-pairs_zero G k r x p = each_zero (λ q. fam k r x p q ∷ [])
+  q_next : (q qs' : ℕ) → members 64 qs ≡ q ∷ members 64 qs' → with_q x p qs ≡ (p, q, x) ∷ with_q x p qs'
+  unfolding with_q each
+  q_next q qs' e = rw e refl
 
-pairs_step : (G : Net) (k r x p qs : ℕ) → 0 < qs → qs < 2 ^ 64
-    → pairs G k r x p qs ≡ fam k r x p (count_trailing_zeros 64 qs) ∷ pairs G k r x p (bit_and qs (qs - 1))
-unfolding pairs
-pairs_step G k r x p qs pos word = each_step (λ q. fam k r x p q ∷ []) qs pos word
+module _ (adj : List ℕ) (all : ℕ) (x : Option ℕ) (ps : ℕ) where
+  p_none : members 64 ps ≡ [] → with_p adj all x ps ≡ []
+  unfolding with_p each
+  p_none e = rw e refl
 
-module _ (n : ℕ) (adj touch : List ℕ) (below k r : ℕ) where
-  abbrev G : Net
-  G = graph n adj touch
+  p_next : (p ps' : ℕ) → members 64 ps ≡ p ∷ members 64 ps' → with_p adj all x ps ≡ with_q x p (partners_in adj all x p) ++ with_p adj all x ps'
+  unfolding with_p each
+  p_next p ps' e = rw e refl
 
-  -- The next p.
-  pub ahead_ps : (xs all ps x p : ℕ) → 0 < ps → ps < 2 ^ 64
-      → ahead n adj touch below k r (record { xs = xs; all = all; ps = bit_and ps (ps - 1); qs = partners_in adj all x (count_trailing_zeros 64 ps); x = x; p = count_trailing_zeros 64 ps })
-      ≡ ahead n adj touch below k r (record { xs = xs; all = all; ps = ps; qs = 0; x = x; p = p })
-  unfolding ahead
-  ahead_ps xs all ps x p pos word =
-      let f : ℕ → List Family = λ p. pairs G k r x p (partners_in adj all x p) in
-      let rest : List Family = each (λ x. tips G k r x (bit_and (get_or adj x 0) below)) (members 64 xs) in
-      sym (append_assoc (f (count_trailing_zeros 64 ps)) (each f (members 64 (bit_and ps (ps - 1)))) rest)
-      ∙ ap (λ (l : List Family). l ++ rest) (sym (each_step f ps pos word))
-      ∙ ap (λ (l : List Family). l ++ (each f (members 64 ps) ++ rest)) (sym (pairs_zero G k r x p))
+module _ (adj : List ℕ) (below xs : ℕ) where
+  x_none : members 64 xs ≡ [] → with_x adj below xs ≡ []
+  unfolding with_x each
+  x_none e = rw e refl
 
-  -- The next x.
-  pub ahead_xs : (xs all x p : ℕ) → 0 < xs → xs < 2 ^ 64 → (count_trailing_zeros 64 xs ≡ 255 → ⊥)
-      → let a = bit_and (get_or adj (count_trailing_zeros 64 xs) 0) below in
-      ahead n adj touch below k r (record { xs = bit_and xs (xs - 1); all = a; ps = a; qs = 0; x = count_trailing_zeros 64 xs; p = 0 })
-      ≡ ahead n adj touch below k r (record { xs = xs; all = all; ps = 0; qs = 0; x = x; p = p })
-  unfolding ahead tips partners_in
-  ahead_xs xs all x p pos word ne =
-      let t : ℕ = count_trailing_zeros 64 xs in
-      let a : ℕ = bit_and (get_or adj t 0) below in
-      let g : ℕ → List Family = λ x. tips G k r x (bit_and (get_or adj x 0) below) in
-      let f : ℕ → List Family = λ p. pairs G k r x p (partners_in adj all x p) in
-      rw (ne_eqb t 255 ne)
-      (ap (λ (l : List Family). l ++ (g t ++ each g (members 64 (bit_and xs (xs - 1))))) (pairs_zero G k r t 0)
-      ∙ sym (each_step g xs pos word)
-      ∙ ap (λ (l : List Family). l ++ each g (members 64 xs)) (sym (each_zero f))
-      ∙ ap (λ (l : List Family). l ++ (each f (members 64 0) ++ each g (members 64 xs))) (sym (pairs_zero G k r x p)))
-
-  -- The candidate in hand.
-  pub ahead_qs : (c : Cursor) → 0 < c.qs → c.qs < 2 ^ 64
-      → ahead n adj touch below k r c
-      ≡ fam k r c.x c.p (count_trailing_zeros 64 c.qs)
-      ∷ ahead n adj touch below k r (record { xs = c.xs; all = c.all; ps = c.ps; qs = bit_and c.qs (c.qs - 1); x = c.x; p = c.p })
-  unfolding ahead
-  ahead_qs c pos word =
-      ap (λ (l : List Family). l ++ (each (λ p. pairs G k r c.x p (partners_in adj c.all c.x p)) (members 64 c.ps)
-      ++ each (λ x. tips G k r x (bit_and (get_or adj x 0) below)) (members 64 c.xs)))
-      (pairs_step G k r c.x c.p c.qs pos word)
-
-  -- Nothing is left.
-  pub ahead_end : (c : Cursor) → c.qs ≡ 0 → c.ps ≡ 0 → c.xs ≡ 0 → ahead n adj touch below k r c ≡ []
-  unfolding ahead
-  ahead_end c q p x =
-      rw (q, p, x)
-      (ap (λ (l : List Family). l ++ (each f (members 64 0) ++ each g (members 64 0))) (pairs_zero G k r c.x c.p)
-      ∙ ap (λ (l : List Family). l ++ each g (members 64 0)) (each_zero f)
-      ∙ each_zero g)
-    where
-      f : ℕ → List Family
-      f p = pairs G k r c.x p (partners_in adj c.all c.x p)
-
-      g : ℕ → List Family
-      g x = tips G k r x (bit_and (get_or adj x 0) below)
-
-  -- Before the first candidate, odd and even.
-  pub ahead_odd : (u b : ℕ) → k % 2 ≡ 1
-      → ahead n adj touch below k r (record { xs = 0; all = u; ps = u; qs = 0; x = 255; p = 0 }) ≡ found G k r u b
-  unfolding ahead found odds partners_in
-  ahead_odd u b e =
-      rw (eq-eqb (k % 2) 1 e)
-      (ap (λ (l : List Family). l ++ (each f (members 64 u) ++ each g (members 64 0))) (pairs_zero G k r 255 0)
-      ∙ ap (λ (l : List Family). each f (members 64 u) ++ l) (each_zero g)
-      ∙ append-nil (each f (members 64 u)))
-    where
-      f : ℕ → List Family
-      f p = pairs G k r 255 p (bit_and (above u p) (get_or adj p 0))
-
-      g : ℕ → List Family
-      g x = tips G k r x (bit_and (get_or adj x 0) below)
-
-  pub ahead_even : (u b : ℕ) → (k % 2 ≡ 1 → ⊥) → below ≡ b
-      → ahead n adj touch below k r (record { xs = u; all = 0; ps = 0; qs = 0; x = 0; p = 0 }) ≡ found G k r u b
-  unfolding ahead found evens
-  ahead_even u b ne e =
-      rw (ne_eqb (k % 2) 1 ne, e)
-      (ap (λ (l : List Family). l ++ (each f (members 64 0) ++ each g (members 64 u))) (pairs_zero G k r 0 0)
-      ∙ ap (λ (l : List Family). l ++ each g (members 64 u)) (each_zero f))
-    where
-      f : ℕ → List Family
-      f p = pairs G k r 0 p (partners_in adj 0 0 p)
-
-      g : ℕ → List Family
-      g x = tips G k r x (bit_and (get_or adj x 0) b)
+  x_next : (x xs' : ℕ) → members 64 xs ≡ x ∷ members 64 xs'
+      → let a = bit_and (get_or adj x 0) below in with_x adj below xs ≡ with_p adj a (Some x) a ++ with_x adj below xs'
+  unfolding with_x each
+  x_next x xs' e = rw e refl
 
 -- ---- the cursor moves
 
-partners_in_lem : (adj : List ℕ) (all x p t : ℕ) → bit (partners_in adj all x p) t ≡ 1 → bit all t ≡ 1
+members_few : (s : ℕ) → length (members 64 s) ≤ 64
+members_few s = omega (arith, length_to_members 64 s, length_le 64 s)
+
+module _ (c : Cursor) where
+  -- The candidate in hand.
+  pub ahead_q : (q qs : ℕ) → members 64 c.qs ≡ q ∷ members 64 qs → ahead c ≡ (c.p, q, c.x) ∷ ahead (record c { qs = qs })
+  unfolding ahead
+  ahead_q q qs e =
+      ap (λ (l : List Spot). l ++ (with_p c.adj.now c.all c.x c.ps ++ with_x c.adj.now c.below c.xs)) (q_next c.x c.p c.qs q qs e)
+
+  module _ (none : members 64 c.qs ≡ []) where
+    -- The next p.
+    pub ahead_p : (p ps qs : ℕ) → members 64 c.ps ≡ p ∷ members 64 ps → qs ≡ partners_in c.adj.now c.all c.x p
+        → let t = record c { ps = ps; qs = qs; p = p } in (ahead t ≡ ahead c) × (left t < left c)
+    unfolding ahead
+    ahead_p p ps qs e is = (
+      rw (is, q_none c.x c.p c.qs none, p_next c.adj.now c.all c.x c.ps p ps e)
+          (sym
+          (append_assoc (with_q c.x p (partners_in c.adj.now c.all c.x p)) (with_p c.adj.now c.all c.x ps) (with_x c.adj.now c.below c.xs))),
+      omega (arith, ap (λ (l : List ℕ). length l) e),
+    )
+
+    -- The next x.
+    pub ahead_x : (x xs : ℕ) → members 64 c.ps ≡ [] → members 64 c.xs ≡ x ∷ members 64 xs
+        → let a = bit_and (get_or c.adj.now x 0) c.below in
+        let t = record c { xs = xs; all = a; ps = a; x = Some x } in (ahead t ≡ ahead c) × (left t < left c)
+    unfolding ahead
+    ahead_x x xs gone e = (
+      rw (
+        q_none (Some x) c.p c.qs none,
+        q_none c.x c.p c.qs none,
+        p_none c.adj.now c.all c.x c.ps gone,
+        x_next c.adj.now c.below c.xs x xs e,
+      ) refl,
+      omega (arith, ap (λ (l : List ℕ). length l) e, members_few (bit_and (get_or c.adj.now x 0) c.below)),
+    )
+
+    -- Nothing is left.
+    pub ahead_none : members 64 c.ps ≡ [] → members 64 c.xs ≡ [] → ahead c ≡ []
+    unfolding ahead
+    ahead_none p x = rw (q_none c.x c.p c.qs none, p_none c.adj.now c.all c.x c.ps p, x_none c.adj.now c.below c.xs x) refl
+
+-- ---- which candidates they are
+
+-- What is mapped in each of the lists is mapped in all of them together.
+module _ {A B C : Type 0} (f : B → C) (g : A → List B) (h : A → List C) (same : (a : A) → map f (g a) ≡ h a) where
+  map_each : (l : List A) → map f (each g l) ≡ each h l
+  unfolding each
+  map_each [] = refl
+  map_each (a ∷ l) = map-append f (g a) (each g l) ∙ ap₂ ◌++◌ (same a) (map_each l)
+
+-- Their families are those of the model.
+module _ (G : Net) (k r : ℕ) where
+  named_q : (x : Option ℕ) (p qs : ℕ) → map (named k r) (with_q x p qs) ≡ pairs G k r (cross x) p qs
+  unfolding with_q pairs
+  named_q x p qs = map_each (named k r) (λ q. (p, q, x) ∷ []) (λ q. fam k r (cross x) p q ∷ []) (λ q. refl) (members 64 qs)
+
+  named_odd : (u : ℕ) → map (named k r) (with_p G.adj u None u) ≡ odds G k r u
+  unfolding with_p odds partners_in
+  named_odd u = map_each (named k r) _ _ (λ p. named_q None p (partners_in G.adj u None p)) (members 64 u)
+
+  named_tip : (x ps : ℕ) → map (named k r) (with_p G.adj ps (Some x) ps) ≡ tips G k r x ps
+  unfolding with_p tips partners_in
+  named_tip x ps = map_each (named k r) _ _ (λ p. named_q (Some x) p (partners_in G.adj ps (Some x) p)) (members 64 ps)
+
+  named_even : (u below : ℕ) → map (named k r) (with_x G.adj below u) ≡ evens G k r u below
+  unfolding with_x evens
+  named_even u below = map_each (named k r) _ _ (λ x. named_tip x (bit_and (get_or G.adj x 0) below)) (members 64 u)
+
+-- The partners are among all p and q.
+partners_among : (adj : List ℕ) (all : ℕ) (x : Option ℕ) (p t : ℕ) → bit (partners_in adj all x p) t ≡ 1 → bit all t ≡ 1
 unfolding partners_in
-partners_in_lem adj all x p t = go (eqb x 255)
-  where
-    go : (b : Bool) → bit (cond b (bit_and (above all p) (get_or adj p 0)) (above all p)) t ≡ 1 → bit all t ≡ 1
-    go true e = ((above_has all p t).0 ((and_has (above all p) (get_or adj p 0) t).0 e).0).1
-    go false e = ((above_has all p t).0 e).1
+partners_among adj all (Some x) p t e = ((above_has all p t).0 e).1
+partners_among adj all None p t e = ((above_has all p t).0 ((and_has (above all p) (get_or adj p 0) t).0 e).0).1
 
-module _ (adj : List ℕ) (below : ℕ) (c : Cursor) (stood : Stood below c) (none : c.qs ≡ 0) where
-  -- To the next p.
-  pub moves_ps : 0 < c.ps → (p qs ps : ℕ) → p ≡ count_trailing_zeros 64 c.ps → qs ≡ partners_in adj c.all c.x p → qs < 2 ^ 64
-      → ps ≡ bit_and c.ps (c.ps - 1) → Moves adj below c (record { xs = c.xs; all = c.all; ps = ps; qs = qs; x = c.x; p = p })
-  moves_ps pos p qs ps low partners word rest =
-      let found = trailing 64 c.ps pos stood.ps_word in
-      record {
-        same =
-            λ n touch k t. rw (partners, rest, low)
-            (ahead_ps n adj touch below k t c.xs c.all c.ps c.x c.p pos stood.ps_word
-            ∙ ap (λ (q : ℕ). ahead n adj touch below k t (record { xs = c.xs; all = c.all; ps = c.ps; qs = q; x = c.x; p = c.p })) (sym none));
-        stood =
-            record {
-              xs_word = stood.xs_word;
-              ps_word = omega (arith, and_le_l c.ps (c.ps - 1), stood.ps_word);
-              qs_word = word;
-              p_atom = omega (arith, found.small);
-              x_byte = stood.x_byte;
-              x_atom = stood.x_atom;
-              p_in = λ some. rw low (stood.ps_in (count_trailing_zeros 64 c.ps) found.here);
-              qs_in = λ t e. stood.all_in t (partners_in_lem adj c.all c.x p t (rw partners at e));
-              ps_in = λ t e. stood.ps_in t ((and_has c.ps (c.ps - 1) t).0 (rw rest at e)).0;
-              all_in = stood.all_in;
-            };
-        less = omega (arith, and_pred_lt c.ps pos);
-      }
+-- Their p and q are in one layer.
+module _ (layer : ℕ) where
+  within_p : (adj : List ℕ) (all : ℕ) (x : Option ℕ) (ps : ℕ) → ((t : ℕ) → bit all t ≡ 1 → bit layer t ≡ 1) → ((t : ℕ) → bit ps t ≡ 1 → bit layer t ≡ 1)
+      → IfSome x (λ x. x < 64) → {s : Spot} → s ∈ with_p adj all x ps → Within layer s
+  unfolding with_p with_q
+  within_p adj all x ps all_in ps_in atom m =
+      let qs : ℕ → ℕ = partners_in adj all x in
+      let one = from_each (λ p. with_q x p (qs p)) (members 64 ps) m in
+      let other = from_each (λ q. (one.a, q, x) ∷ []) (members 64 (qs one.a)) one.here in
+      let q_in = all_in other.a (partners_among adj all x one.a other.a (bit_of_mem 64 (qs one.a) other.a other.mem)) in
+      go one.a other.a (lt_of_mem 64 ps one.a one.mem) (lt_of_mem 64 (qs one.a) other.a other.mem) (ps_in one.a (bit_of_mem 64 ps one.a one.mem)) q_in other.here
+    where
+      go : {s : Spot} (p q : ℕ) → p < 64 → q < 64 → bit layer p ≡ 1 → bit layer q ≡ 1 → s ∈ ((p, q, x) ∷ []) → Within layer s
+      go p q hp hq e f (later h) = elim h [ ]
+      go p q hp hq e f first = record { p_atom = hp; q_atom = hq; x_atom = atom; p_in = e; q_in = f }
 
-  -- To the next x.
-  pub moves_xs : c.ps ≡ 0 → 0 < c.xs → (x all xs : ℕ) → x ≡ count_trailing_zeros 64 c.xs → all ≡ bit_and (get_or adj x 0) below → below < 2 ^ 64
-      → xs ≡ bit_and c.xs (c.xs - 1) → Moves adj below c (record { xs = xs; all = all; ps = all; qs = 0; x = x; p = 0 })
-  moves_xs gone pos x all xs low is word rest =
-      let found = trailing 64 c.xs pos stood.xs_word in
-      let in-below : (t : ℕ) → bit all t ≡ 1 → bit below t ≡ 1 = λ t e. ((and_has (get_or adj x 0) below t).0 (rw is at e)).1 in
-      let part : all < 2 ^ 64 = omega (arith, and_le_r (get_or adj x 0) below) in
-      record {
-        same =
-            λ n touch k t. rw (is, rest, low)
-            (ahead_xs n adj touch below k t c.xs c.all c.x c.p pos stood.xs_word (λ e. omega (arith, e, found.small))
-            ∙ ap (λ (ps : ℕ). ahead n adj touch below k t (record { xs = c.xs; all = c.all; ps = ps; qs = 0; x = c.x; p = c.p })) (sym gone)
-            ∙ ap (λ (q : ℕ). ahead n adj touch below k t (record { xs = c.xs; all = c.all; ps = c.ps; qs = q; x = c.x; p = c.p })) (sym none));
-        stood =
-            record {
-              xs_word = omega (arith, and_le_l c.xs (c.xs - 1), stood.xs_word);
-              ps_word = part;
-              qs_word = omega arith;
-              p_atom = omega arith;
-              x_byte = omega (arith, found.small);
-              x_atom = λ ne. omega (arith, found.small);
-              p_in = λ some. absurd (some refl);
-              qs_in = λ t e. absurd (omega (arith, e, zero_bit t));
-              ps_in = in-below;
-              all_in = in-below;
-            };
-        less = omega (arith, and_pred_lt c.xs pos);
-      }
+  within_x : (adj : List ℕ) (xs : ℕ) {s : Spot} → s ∈ with_x adj layer xs → Within layer s
+  unfolding with_x
+  within_x adj xs m =
+      let all : ℕ → ℕ = λ x. bit_and (get_or adj x 0) layer in
+      let tip = from_each (λ x. with_p adj (all x) (Some x) (all x)) (members 64 xs) m in
+      let low : (t : ℕ) → bit (all tip.a) t ≡ 1 → bit layer t ≡ 1 = λ t e. ((and_has (get_or adj tip.a 0) layer t).0 e).1 in
+      within_p adj (all tip.a) (Some tip.a) (all tip.a) low low (lt_of_mem 64 xs tip.a tip.mem) tip.here
 
 -- ---- before the first candidate
 
-module _ (layers : List ℕ) (k u : ℕ) (is : u ≡ get_or layers (k / 2) 0) (word : u < 2 ^ 64) where
-  pub starts_odd : k % 2 ≡ 1 → Starts layers k (record { xs = 0; all = u; ps = u; qs = 0; x = 255; p = 0 })
-  starts_odd odd =
+module _ (adj : Bor (List ℕ)) (long : 64 ≤ length adj.now) (layers : List ℕ) (k u below : ℕ) (is : u ≡ get_or layers (k / 2) 0) (low : below ≡ get_or layers ((k - 1) / 2) 0) where
+  pub firsts_odd : k % 2 ≡ 1 → Firsts adj.now layers k (record { adj = adj; below = below; xs = 0; all = u; ps = u; qs = 0; x = None; p = 0; long = long })
+  unfolding ahead found
+  firsts_odd odd =
+      let none : with_q None 0 0 ++ (with_p adj.now u None u ++ with_x adj.now below 0) ≡ with_p adj.now u None u =
+      rw (q_none None 0 0 (members_zero 64), x_none adj.now below 0 (members_zero 64)) (append-nil (with_p adj.now u None u)) in
       let same : k / 2 ≡ (k - 1) / 2 = omega (arith, odd) in
       let here : (t : ℕ) → bit u t ≡ 1 → bit (get_or layers ((k - 1) / 2) 0) t ≡ 1 = λ t e. rw (sym same, sym is) e in
       record {
-        all = λ n adj touch t. rw is (ahead_odd n adj touch (get_or layers ((k - 1) / 2) 0) k t (get_or layers (k / 2) 0) (get_or layers (k / 2 - 1) 0) odd);
-        stood =
-            record {
-              xs_word = omega arith;
-              ps_word = word;
-              qs_word = omega arith;
-              p_atom = omega arith;
-              x_byte = omega arith;
-              x_atom = λ ne. absurd (ne refl);
-              p_in = λ some. absurd (some refl);
-              qs_in = λ t e. absurd (omega (arith, e, zero_bit t));
-              ps_in = here;
-              all_in = here;
-            };
+        all = λ n touch r. rw (none, eq-eqb (k % 2) 1 odd, ← is) (named_odd (record { n = n; adj = adj.now; touch = touch }) k r u);
+        within = λ s m. within_p (get_or layers ((k - 1) / 2) 0) adj.now u None u here here tt (rw none at m);
       }
 
-  pub starts_even : 3 ≤ k → (k % 2 ≡ 1 → ⊥) → Starts layers k (record { xs = u; all = 0; ps = 0; qs = 0; x = 0; p = 0 })
-  starts_even long even =
+  pub firsts_even : 3 ≤ k → (k % 2 ≡ 1 → ⊥) → Firsts adj.now layers k (record { adj = adj; below = below; xs = u; all = 0; ps = 0; qs = 0; x = None; p = 0; long = long })
+  unfolding ahead found
+  firsts_even three even =
+      let none : with_q None 0 0 ++ (with_p adj.now 0 None 0 ++ with_x adj.now below u) ≡ with_x adj.now below u =
+      rw (q_none None 0 0 (members_zero 64), p_none adj.now 0 None 0 (members_zero 64)) refl in
       let same : (k - 1) / 2 ≡ k / 2 - 1 = omega (arith, even) in
-      let no : (t : ℕ) → bit 0 t ≡ 1 → bit (get_or layers ((k - 1) / 2) 0) t ≡ 1 = λ t e. absurd (omega (arith, e, zero_bit t)) in
       record {
-        all =
-            λ n adj touch t. rw is (ahead_even n adj touch (get_or layers ((k - 1) / 2) 0) k t (get_or layers (k / 2) 0) (get_or layers (k / 2 - 1) 0) even
-            (ap (λ (i : ℕ). get_or layers i 0) same));
-        stood =
-            record {
-              xs_word = word;
-              ps_word = omega arith;
-              qs_word = omega arith;
-              p_atom = omega arith;
-              x_byte = omega arith;
-              x_atom = λ ne. omega arith;
-              p_in = λ some. absurd (some refl);
-              qs_in = no;
-              ps_in = no;
-              all_in = no;
-            };
+        all = λ n touch r. rw (none, ne_eqb (k % 2) 1 even, ← is, ← same, ← low) (named_even (record { n = n; adj = adj.now; touch = touch }) k r u below);
+        within = λ s m. within_x (get_or layers ((k - 1) / 2) 0) adj.now u (rw (none, low) at m);
       }
-
--- ---- whether there is a q left
-
-pub sticks_qs : (c : Cursor) → (c.qs ≡ 0 → ⊥) → Sticks c false
-sticks_qs c some = record { stuck = λ e. absurd (true≢false (sym e)); free = λ e none. absurd (some none) }
-
-pub sticks_ps : (c : Cursor) → c.qs ≡ 0 → (c.ps ≡ 0 → ⊥) → Sticks c true
-sticks_ps c none some = record { stuck = λ e. (none, λ gone. absurd (some gone)); free = λ e. absurd (true≢false e) }
-
-pub sticks_xs : (c : Cursor) → c.qs ≡ 0 → c.ps ≡ 0 → Sticks c (not (eqb c.xs 0))
-sticks_xs c none gone = go (eqb c.xs 0) refl
-  where
-    go : (b : Bool) → eqb c.xs 0 ≡ b → Sticks c (not b)
-    go true e = record { stuck = λ no. absurd (true≢false (sym no)); free = λ yes q. (gone, eqb-true c.xs 0 e) }
-    go false e = record { stuck = λ yes. (none, λ p. pos_of_ne c.xs (eqb-false c.xs 0 e)); free = λ no. absurd (true≢false no) }
-
--- ---- to a candidate
-
-module _ (adj : List ℕ) (below : ℕ) where
-  -- From before the first candidate to it.
-  pub firsts : {layers : List ℕ} {k : ℕ} {c r : Cursor} → below ≡ get_or layers ((k - 1) / 2) 0 → Starts layers k c → Follows adj below c r
-      → Firsts adj layers k below r
-  firsts {layers} {k} {c} {r} at starts follows = record {
-    all = λ n touch t. follows.same n touch k t ∙ ap (λ (b : ℕ). ahead n adj touch b k t c) at ∙ starts.all n adj touch t;
-    stood = follows.stood;
-    over = follows.over;
-  }
-
-  module _ (c : Cursor) (stood : Stood below c) (some : c.qs ≡ 0 → ⊥) {qs : ℕ} (is : qs ≡ bit_and c.qs (c.qs - 1)) where
-    -- Without the candidate in hand.
-    abbrev rest : Cursor
-    rest = record { xs = c.xs; all = c.all; ps = c.ps; qs = qs; x = c.x; p = c.p }
-
-    pub rest_stood : Stood below rest
-    rest_stood = record {
-      xs_word = stood.xs_word;
-      ps_word = stood.ps_word;
-      qs_word = omega (arith, and_le_l c.qs (c.qs - 1), stood.qs_word);
-      p_atom = stood.p_atom;
-      x_byte = stood.x_byte;
-      x_atom = stood.x_atom;
-      p_in = λ more. stood.p_in some;
-      qs_in = λ t e. stood.qs_in t ((and_has c.qs (c.qs - 1) t).0 (rw is at e)).0;
-      ps_in = stood.ps_in;
-      all_in = stood.all_in;
-    }
-
-    pub passes : {r : Cursor} → Follows adj below rest r → Passes adj below c r
-    passes {r} follows = record {
-      next = λ n touch k t.
-          ahead_qs n adj touch below k t c (pos_of_ne c.qs some) stood.qs_word
-          ∙ ap (λ (l : List Family). fam k t c.x c.p (count_trailing_zeros 64 c.qs) ∷ l)
-          (ap (λ (q : ℕ). ahead n adj touch below k t (record { xs = c.xs; all = c.all; ps = c.ps; qs = q; x = c.x; p = c.p })) (sym is)
-          ∙ sym (follows.same n touch k t));
-      stood = follows.stood;
-      over = follows.over;
-    }

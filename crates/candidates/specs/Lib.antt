@@ -1,3 +1,4 @@
 pub mod Engine
+pub mod Nets
 pub mod Going
 pub mod Cursor

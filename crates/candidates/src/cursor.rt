@@ -1,11 +1,15 @@
 //! The candidates of one length under one top atom, one after the other in the order of the rows.
-ghost use Rattle.std.specs.Prelude.{◌≡◌, ◌-◌, ◌/◌, ◌<◌, ◌≤◌, length, get_or};
-ghost use Rattle.candidates.specs.Cursor.{partners_in, Stood, Sticks, Moves, Follows, Starts, Firsts, Passes};
+ghost use Rattle.std.specs.Prelude.{◌≡◌, [], ◌/◌, ◌<◌, ◌≤◌, length, MatchOption};
+ghost use Rattle.bondset.specs.Sets.{members};
 
-/// The candidates still to come: those with this x and this p and a q of `qs`, then those with this x and a p of `ps`, whose partners are in
-/// `all`, and then those with an x of `xs`.
+/// The candidates still to come, each with its p, its q, and its x if the length is even: those with this x and this p and a q of `qs`, then
+/// those with this x and a p of `ps`, whose partners are in `all`, and then those with an x of `xs`.
 #[derive(Clone, Copy)]
-pub struct Cursor {
+pub struct Cursor<'a> {
+    /// The neighbours of each atom.
+    pub adj: &'a [u64],
+    /// The layer of p and q, if the length is even.
+    pub below: u64,
     /// The atoms x to come.
     pub xs: u64,
     /// All atoms p and q for the x in hand.
@@ -14,135 +18,91 @@ pub struct Cursor {
     pub ps: u64,
     /// The atoms q to come.
     pub qs: u64,
-    /// The x in hand, or 255 if the length is odd.
-    pub x: usize,
+    /// The x in hand: none if the length is odd, and before the first one.
+    pub x: Option<usize>,
     /// The p in hand.
     pub p: usize,
+    pub ghost long: { 64 ≤ length adj.now },
 }
 
-/// The partners q of `p`: those above it, and bonded to it if there is no atom x between them.
-fn partners(adj: &[u64], all: u64, x: usize, p: usize) -> u64
-    requires p_bound { p < 64 }
-    requires in_bounds { 64 ≤ length adj.now }
-    ensures { result ≡ partners_in adj.now all x p }
-{
-    let rest = atoms::above(all, p);
-    if x == 255 {
-        return rest & adj[p];
-    }
-    rest
-}
+impl<'a> Cursor<'a> {
+    ghost use Rattle.candidates.specs.Cursor.{Firsts};
 
-/// Whether there is no q left for the p in hand, and something to go on with.
-fn stuck(c: Cursor) -> bool
-    ensures { Sticks c result }
-{
-    if c.qs != 0 {
-        return false;
-    }
-    if c.ps != 0 {
-        return true;
-    }
-    c.xs != 0
-}
-
-/// The next p, or with no p left the next x.
-fn step(adj: &[u64], below: u64, c: Cursor) -> Cursor
-    requires in_bounds { 64 ≤ length adj.now }
-    requires stood { Stood below c }
-    requires qs_value { c.qs ≡ 0 }
-    requires xs_nonzero { c.ps ≡ 0 → 0 < c.xs }
-    ensures { Moves adj.now below c result }
-{
-    if c.ps != 0 {
-        let p = atoms::lowest(c.ps);
-        let qs = partners(adj, c.all, c.x, p);
-        return Cursor {
-            xs: c.xs,
-            all: c.all,
-            ps: atoms::others(c.ps),
-            qs,
-            x: c.x,
-            p,
-        };
-    }
-    let x = atoms::lowest(c.xs);
-    let all = adj[x] & below;
-    Cursor {
-        xs: atoms::others(c.xs),
-        all,
-        ps: all,
-        qs: 0,
-        x,
-        p: 0,
-    }
-}
-
-/// On to the next p that has a q, if there is one.
-fn forward(adj: &[u64], below: u64, c: Cursor) -> Cursor
-    requires in_bounds { 64 ≤ length adj.now }
-    requires stood { Stood below c }
-    ensures { Follows adj.now below c result }
-{
-    let mut at = c;
-    while stuck(at) {
-        at = step(adj, below, at);
-    }
-    at
-}
-
-/// Before the first candidate of length `k`: for odd lengths the layer at half the length has p and q, for even ones x.
-fn start(layers: &[u64], k: usize) -> Cursor
-    requires le_k { 3 ≤ k }
-    requires k_in_bounds { k / 2 < length layers.now }
-    ensures { Starts layers.now k result }
-{
-    let layer = layers[k / 2];
-    if k % 2 == 1 {
-        return Cursor {
-            xs: 0,
-            all: layer,
-            ps: layer,
+    /// Before the first candidate of length `k`: for odd lengths the layer at half the length has p and q, for even ones x.
+    pub fn first(adj: &'a [u64], layers: &[u64], k: usize) -> Cursor<'a>
+        requires le_k { 3 ≤ k }
+        requires in_bounds { 64 ≤ length adj.now }
+        requires k_in_bounds { k / 2 < length layers.now }
+        ensures { Firsts adj.now layers.now k result }
+    {
+        let layer = layers[k / 2];
+        let below = layers[(k - 1) / 2];
+        let (xs, ps) = if k % 2 == 1 { (0, layer) } else { (layer, 0) };
+        Cursor {
+            adj,
+            below,
+            xs,
+            all: ps,
+            ps,
             qs: 0,
-            x: 255,
+            x: None,
             p: 0,
-        };
-    }
-    Cursor {
-        xs: layer,
-        all: 0,
-        ps: 0,
-        qs: 0,
-        x: 0,
-        p: 0,
+        }
     }
 }
 
-/// At the first candidate of length `k`, whose p and q are in the layer `below`.
-pub fn first(adj: &[u64], layers: &[u64], k: usize, below: u64) -> Cursor
-    requires le_k { 3 ≤ k }
-    requires in_bounds { 64 ≤ length adj.now }
-    requires k_in_bounds { k / 2 < length layers.now }
-    requires below_value { below ≡ get_or layers.now ((k - 1) / 2) 0 }
-    ensures { Firsts adj.now layers.now k below result }
-{
-    forward(adj, below, start(layers, k))
+impl Cursor<'_> {
+    ghost use Rattle.candidates.specs.Cursor.{partners_in, Moves};
+
+    /// The partners q of `p`: those above it, and bonded to it if there is no atom x between them.
+    fn partners(&self, p: usize) -> u64
+        requires { p < 64 }
+        ensures { result ≡ partners_in self.now.adj.now self.now.all self.now.x p }
+    {
+        let above = atoms::above(self.all, p);
+        match self.x {
+            Some(_) => above,
+            None => above & self.adj[p],
+        }
+    }
+
+    /// On to the next p, or with no p left to the next x; nothing if neither is left.
+    fn step(&mut self) -> Option<()>
+        requires { members 64 self.old.qs ≡ [] }
+        ensures { Moves self.old result self.new }
+    {
+        if let Some((p, ps)) = bondset::split_lowest(self.ps) {
+            self.p = p;
+            self.ps = ps;
+            self.qs = self.partners(p);
+        } else {
+            let (x, xs) = bondset::split_lowest(self.xs)?;
+            self.x = Some(x);
+            self.xs = xs;
+            self.all = self.adj[x] & self.below;
+            self.ps = self.all;
+        }
+        Some(())
+    }
 }
 
-/// Past the candidate in hand, which has the lowest q left.
-pub fn next(adj: &[u64], below: u64, c: Cursor) -> Cursor
-    requires in_bounds { 64 ≤ length adj.now }
-    requires stood { Stood below c }
-    requires fact { c.qs ≡ 0 → ⊥ }
-    ensures { Passes adj.now below c result }
-{
-    let rest = Cursor {
-        xs: c.xs,
-        all: c.all,
-        ps: c.ps,
-        qs: atoms::others(c.qs),
-        x: c.x,
-        p: c.p,
-    };
-    forward(adj, below, rest)
+impl Iterator for Cursor<'_> {
+    ghost use Rattle.std.specs.Iterator.{YieldsFirst, item_count};
+    ghost use Rattle.candidates.specs.Cursor.{ahead};
+
+    type Item = (usize, usize, Option<usize>);
+
+    ghost next_gives = { YieldsFirst ahead };
+
+    ghost remaining = { item_count ahead };
+
+    fn next(&mut self) -> Option<(usize, usize, Option<usize>)> {
+        loop {
+            if let Some((q, qs)) = bondset::split_lowest(self.qs) {
+                self.qs = qs;
+                return Some((self.p, q, self.x));
+            }
+            self.step()?;
+        }
+    }
 }

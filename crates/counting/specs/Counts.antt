@@ -1,10 +1,9 @@
 -- Counting paths layer by layer, and a running count of rings that keeps within a word.
-use Rattle.std.specs.Prelude.{◌≡◌, cond, ◌||◌, List, [], ℕ, ◌+◌, ◌^◌, ◌<◌, ◌≤◌, min, ltb, length, get_or}
+use Rattle.std.specs.Prelude.{◌≡◌, cond, List, [], ℕ, ◌+◌, ◌^◌, ◌<◌, ◌≤◌, ltb, length, get_or, Option, Some, None}
 use Rattle.std.specs.Int.Bits.{bit_and}
 use Rattle.bondset.specs.Sets.{bit}
 use Rattle.model.specs.Layer.{ways}
 use Rattle.paths.specs.Nets.{net}
-use Rattle.counting.specs.declared.Count.{Count}
 use Rattle.counting.specs.declared.PathCounts.{PathCounts}
 
 -- The layers 0 to d are words, and no two of them share an atom.
@@ -31,11 +30,11 @@ pub record Counted (adj layers : List ℕ) (d p q : ℕ) (counts : PathCounts) :
   pub one : counts.from_p ≡ ways (net adj []) layers d p
   pub other : counts.from_q ≡ ways (net adj []) layers d q
 
--- The count with so many rings more: at `max`, and flagged, once there are more than `max`.
-unfoldable pub added : ℕ → Count → ℕ → Count
-added max count size =
-    cond (ltb 0 count.over || ltb max (count.rings + size)) (record { rings = max; over = 1 }) (record { rings = count.rings + size; over = 0 })
+-- The count with so many rings more: none once there are more than `max`.
+unfoldable pub added : ℕ → Option ℕ → ℕ → Option ℕ
+added max None size = None
+added max (Some rings) size = cond (ltb max (rings + size)) None (Some (rings + size))
 
--- What the count says of so many rings: their number up to `max`, and whether there are more.
-unfoldable pub counted : ℕ → ℕ → Count
-counted max total = record { rings = min max total; over = cond (ltb max total) 1 0 }
+-- What the count says of so many rings: their number, and nothing if there are more than `max`.
+unfoldable pub counted : ℕ → ℕ → Option ℕ
+counted max total = cond (ltb max total) None (Some total)

@@ -1,8 +1,8 @@
 //! The number of paths from an atom to the top, and the number of rings.
 //!
 //! Promises: the number of paths is exactly what the engine's plan in `model` says, for any lent words in which no two layers share an atom,
-//! which the layers of the plan never do, and then it fits a word. A running count of rings is exact up to the largest word, and is flagged as
-//! soon as there are more.
+//! which the layers of the plan never do, and then it fits a word. A running count of rings is exact up to the largest word, and there is none
+//! as soon as there are more.
 
 #![tactic(auto)]
 
@@ -28,18 +28,12 @@ fn lone(adj: &[u64], layers: &[u64], d: usize, t: usize) -> bool
     requires d_in_bounds { d ≤ length layers.now }
     ensures { result ≡ true → ways (net adj.now []) layers.now d t ≡ 1 }
 {
-    let mut i = d;
     let mut a = t;
-    while i > 0 {
-        i -= 1;
-        let down = adj[a] & layers[i];
-        if down == 0 {
+    for &layer in layers[..d].iter().rev() {
+        let Some((next, 0)) = bondset::split_lowest(adj[a] & layer) else {
             return false;
-        }
-        if down & (down - 1) != 0 {
-            return false;
-        }
-        a = u64::trailing_zeros(down) as usize;
+        };
+        a = next;
     }
     true
 }
@@ -49,10 +43,8 @@ pub fn ones(counts: &mut [u64], s: u64)
     requires { 64 ≤ length counts.old }
     ensures { (t : ℕ) → bit s t ≡ 1 → get_or counts.new t 0 ≡ 1 }
 {
-    let mut rest = s;
-    while rest != 0 {
-        counts[u64::trailing_zeros(rest) as usize] = 1;
-        rest = rest & (rest - 1);
+    for t in atoms::each(s) {
+        counts[t] = 1;
     }
 }
 
@@ -65,12 +57,9 @@ fn total(adj: &[u64], layers: &[u64], counts: &[u64], e: usize, t: usize) -> u64
     requires table { Table adj.now layers.now e counts.now }
     ensures { result ≡ ways (net adj.now []) layers.now (e + 1) t }
 {
-    let mut rest = adj[t] & layers[e];
     let mut sum: u64 = 0;
-    while rest != 0 {
-        let s = u64::trailing_zeros(rest) as usize;
+    for s in atoms::each(adj[t] & layers[e]) {
         sum += counts[s];
-        rest = rest & (rest - 1);
     }
     sum
 }
@@ -83,12 +72,8 @@ pub fn fill(adj: &[u64], layers: &[u64], counts: &mut [u64], e: usize)
     ensures next_table { Table adj.now layers.now (e + 1) counts.new }
     ensures others { Others (get_or layers.now (e + 1) 0) counts.old counts.new }
 {
-    let mut rest = layers[e + 1];
-    while rest != 0 {
-        let t = u64::trailing_zeros(rest) as usize;
-        let sum = total(adj, layers, counts, e, t);
-        counts[t] = sum;
-        rest = rest & (rest - 1);
+    for t in atoms::each(layers[e + 1]) {
+        counts[t] = total(adj, layers, counts, e, t);
     }
 }
 
@@ -132,45 +117,19 @@ pub fn ways(
     requires q_value { bit (get_or layers.now d 0) q ≡ 1 }
     ensures { Counted adj.now layers.now d p q result }
 {
-    if lone(adj, layers, d, p) {
-        if lone(adj, layers, d, q) {
-            return PathCounts {
-                from_p: 1,
-                from_q: 1,
-            };
-        }
+    if lone(adj, layers, d, p) && lone(adj, layers, d, q) {
+        return PathCounts {
+            from_p: 1,
+            from_q: 1,
+        };
     }
     tabled(adj, layers, counts, d, p, q)
 }
 
-/// A number of rings that keeps within a word.
-#[derive(Clone, Copy)]
-pub struct Count {
-    /// The number of rings, or the largest word if there are more.
-    pub rings: u64,
-    /// 1 if there are more rings than a word can say, else 0; a word, so that no byte of the struct is a gap to copy around.
-    pub over: u64,
-}
-
-/// The count with `a` times `b` rings more.
-pub fn add(count: Count, a: u64, b: u64) -> Count
+/// The count with `a` times `b` rings more: none once there are more than a word can say.
+pub fn add(count: Option<u64>, a: u64, b: u64) -> Option<u64>
     ensures { result ≡ added (2 ^ 64 - 1) count (a * b) }
 {
-    let full = Count {
-        rings: 18446744073709551615,
-        over: 1,
-    };
-    if count.over != 0 {
-        return full;
-    }
-    if a == 0 {
-        return count;
-    }
-    if (18446744073709551615 - count.rings) / a < b {
-        return full;
-    }
-    Count {
-        rings: count.rings + a * b,
-        over: 0,
-    }
+    let size = a.checked_mul(b)?;
+    count?.checked_add(size)
 }

@@ -1,4 +1,4 @@
--- The size of an accepted compound.
+-- The bonds of an accepted compound.
 use Prim.Native.Nat.{◌+◌, ◌≤◌}
 use native.Mathlib.Omega.{arith}
 use Rattle.cycles.specs.Compound.{Compound, m}
@@ -7,10 +7,6 @@ use Rattle.cycles.proofs.Dimension.{closed_basis, dimension_one_piece_sum}
 use Rattle.model.proofs.Meets.{accepted_ready}
 
 module _ (c : Compound) where
-  -- An accepted compound has 64 atoms at most.
-  pub accepted_atoms : Accepted c → c.n ≤ 64
-  accepted_atoms accepted = (accepted_ready c accepted).atoms
-
   -- An accepted compound has bonds enough to hang together.
   pub accepted_bonds : Accepted c → c.n ≤ m c + 1
   accepted_bonds accepted =

@@ -1,5 +1,5 @@
 -- A run on a compound that stands gives its report.
-use mathlib.Core.Path.{◌≡◌, refl, sym, ap, ◌∙◌, subst}
+use mathlib.Core.Path.{◌≡◌, refl, sym, ap, ◌∙◌}
 use mathlib.Core.Logic.{inl, inr}
 use mathlib.Core.List.{List, [], ◌∷◌, ◌++◌, map}
 use Prim.Native.Nat.{ℕ, zero, suc, ◌+◌, ◌-◌, ◌<◌}
@@ -13,11 +13,11 @@ use Rattle.answers.specs.Answered.{over, size_of}
 use Rattle.model.specs.Net.{net_of}
 use Rattle.model.specs.Run.{report}
 use Rattle.model.proofs.NetRead.{get_or_zeros}
-use Rattle.reading.specs.Reading.{compound}
-use Rattle.candidates.specs.declared.Going.{Going}
+use Rattle.atoms.specs.declared.nets.Net as code
+use Rattle.candidates.specs.Nets.{graph}
 use Rattle.candidates.specs.Engine.{Engine}
+use Rattle.engine.specs.declared.Found.{Found}
 use Rattle.engine.specs.Lengths.{run_by, Runs}
-use Rattle.candidates.specs.Going.{graph, engine_of}
 use Rattle.engine.specs.Reports.{Stands, Reports}
 use Rattle.engine.proofs.Sizes.{written_from, written_sizes}
 use Rattle.engine.proofs.Ran.{Ran, engine_ran}
@@ -55,32 +55,29 @@ sizes_over_zeros from k rows j h =
 
 -- ---- a run
 
-stands_net : {n : ℕ} {bonds adj touch : List ℕ} → Stands (compound n bonds) adj touch → graph n adj touch ≡ net_of (compound n bonds)
+stands_net : {c : Compound} {net : code.Net} → Stands c net → graph net ≡ net_of c
 unfolding net_of
-stands_net s = rw (s.neighbours, s.bonds)
+stands_net s = rw (s.atoms, s.neighbours, s.bonds)
 
 -- A run on an accepted compound reports it.
-pub run_reports : {n : ℕ} {bonds adj touch : List ℕ} {from cycles : ℕ} {out table sizes out' table' sizes' : List ℕ} {r : Going}
-    → Stands (compound n bonds) adj touch → cycles ≡ cyclomatic (compound n bonds)
-    → Runs (graph n adj touch) from cycles out table sizes r out' table' sizes'
-    → Reports (compound n bonds) from out table sizes r out' table' sizes'
-run_reports {n} {bonds} {adj} {touch} {from} {cycles} {out} {table} {sizes} {out'} {table'} {sizes'} {r} s e runs =
-    let c : Compound = compound n bonds in
-    let (rows, tags, pivots, labels, holds, is) = runs.ran in
-    let E : Engine = engine_of r rows tags pivots labels holds out' table' sizes' in
-    let same : E ≡ run_by (net_of c) from (cyclomatic c) out table sizes = is ∙ rw (stands_net s, e) in
-    let ran : Ran out table sizes from (report c) E = subst (Ran out table sizes from (report c)) (sym same) (engine_ran c s.accepted out table sizes from) in
+pub run_reports : {c : Compound} {net : code.Net} {from full : ℕ} {out table sizes out' table' sizes' : List ℕ} {r : Found}
+    → Stands c net → full ≡ cyclomatic c → Runs (graph net) from full out table sizes r out' table' sizes'
+    → Reports c from out table sizes r out' table' sizes'
+run_reports {c} {net} {from} {full} {out} {table} {sizes} {out'} {table'} {sizes'} {r} s e runs =
+    let E : Engine = run_by (net_of c) from (cyclomatic c) out table sizes in
+    let run : Runs (net_of c) from (cyclomatic c) out table sizes r out' table' sizes' = rw (stands_net s, e) at runs in
+    let ran : Ran out table sizes from (report c) E = engine_ran c s.accepted out table sizes from in
     record {
-      families = ran.families;
-      classes = ran.classes;
-      total = ran.total;
-      rings = ran.rings;
-      rows = ran.rows;
-      class_rows = ran.class_rows;
+      families = run.families ∙ ran.families;
+      classes = run.classes ∙ ran.classes;
+      total = run.total ∙ ran.total;
+      rings = run.rings ∙ ran.rings;
+      rows = λ fit. run.rows ∙ ran.rows fit;
+      class_rows = λ many fit. run.class_rows ∙ ran.class_rows many fit;
       sized = λ zero within j h.
-          ap (λ (xs : List ℕ). get_or xs j 0) (ran.sizes within ∙ ap (λ (xs : List ℕ). written_sizes from xs (report c).rows) zero)
+          ap (λ (xs : List ℕ). get_or xs j 0) (run.sized ∙ ran.sizes within ∙ ap (λ (xs : List ℕ). written_sizes from xs (report c).rows) zero)
           ∙ sizes_over_zeros from (length sizes) (report c).rows j h;
-      out_kept = ran.out_long;
-      table_kept = ran.table_long;
-      sizes_kept = ran.sizes_long;
+      out_kept = ap length run.rows ∙ ran.out_long;
+      table_kept = ap length run.class_rows ∙ ran.table_long;
+      sizes_kept = ap length run.sized ∙ ran.sizes_long;
     }

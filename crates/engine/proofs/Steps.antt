@@ -6,9 +6,10 @@ use Prim.Native.Nat.{ℕ, zero, suc, ◌+◌, ◌-◌, ◌*◌, ◌/◌, ◌^◌
 use native.Mathlib.Nat.{mod-eq_of_lt}
 use native.Mathlib.Numerals.{add-one}
 use native.Mathlib.Omega.{arith}
-use borrow.Author.Tests.{lt-ltb, le-ltb, eqb-false}
+use borrow.Author.Tests.{lt-ltb, eqb-false}
 use lib.Dec.{eqb, ltb}
 use lib.ListN.{length, replicate, length-append, length-map}
+use Rattle.std.specs.Prelude.{Option}
 use Rattle.bondset.specs.Reduction.{reduced, used}
 use Rattle.cycles.specs.Compound.{Compound, cyclomatic}
 use Rattle.cycles.specs.Family.{Family}
@@ -23,11 +24,10 @@ use Rattle.model.proofs.Related.{length_related}
 use Rattle.model.proofs.Items.{Try, judge, tries, tries_items, loop_tries}
 use Rattle.model.proofs.Trace.{Fits, length_along}
 use Rattle.model.proofs.Meets.{Reached, round_reached, run_reached}
-use Rattle.counting.specs.declared.Count.{Count}
 use Rattle.counting.specs.Counts.{added, counted}
-use Rattle.counting.proofs.Added.{added_counted, counted_none, counted_not_flagged}
+use Rattle.counting.proofs.Added.{added_counted, counted_none, counted_within}
 use Rattle.ledger.specs.Ledger.{Ledger}
-use Rattle.candidates.specs.Engine.{Engine, put_size, kept_by, attempted}
+use Rattle.candidates.specs.Engine.{Engine, put_size, size_in, kept_by, attempted}
 use Rattle.engine.specs.Lengths.{settled_by, begun, round_by, run_by}
 use Rattle.engine.proofs.Laid.{laid_none}
 use Rattle.engine.proofs.Keeps.{word, rows_of, Keeps, keeps_kept, keeps_settled, row_bytes, class_row_bytes, row_wide, class_wide, room_8, room_5}
@@ -95,13 +95,13 @@ module _ {out₀ table₀ sizes₀ : List ℕ} {from : ℕ} where
       after = kept f size rest names st
 
       sum : added most E.rings size ≡ counted most (st.rings + size)
-      sum = ap (λ (n : Count). added most n size) h.rings ∙ added_counted most st.rings size
+      sum = ap (λ (rings : Option ℕ). added most rings size) h.rings ∙ added_counted most st.rings size
 
-      fits : st.rings + size ≤ most → ltb 0 (added most E.rings size).over ≡ false
-      fits l = ap (λ (n : Count). ltb 0 n.over) sum ∙ le-ltb 0 (counted most (st.rings + size)).over (omega (arith, counted_not_flagged most (st.rings + size) l))
+      fits : st.rings + size ≤ most → size_in (added most E.rings size) size ≡ size
+      fits l = ap (λ (rings : Option ℕ). size_in rings size) (sum ∙ counted_within most (st.rings + size) l)
 
       written : after.rings ≤ most → rows_of after < 2 ^ 64
-          → put_size from E.ledger.families (cond (ltb 0 (added most E.rings size).over) 0 size) E.sizes
+          → put_size from E.ledger.families (size_in (added most E.rings size) size) E.sizes
           ≡ written_sizes from sizes₀ (after.done ++ after.here)
       written l few =
           let rows : List Row = st.done ++ st.here in

@@ -1,131 +1,64 @@
--- What the loops over top atoms and over lengths do to the engine, over plain lists.
+-- What the loops over top atoms and over lengths do to the engine.
 use mathlib.Core.Path.{◌≡◌, sym, ap, ◌∙◌}
 use mathlib.Core.Bool.{Bool, cond}
 use mathlib.Core.List.{List}
-use Prim.Native.Nat.{ℕ, ◌+◌, ◌-◌, ◌/◌, ◌^◌, ◌<◌, ◌≤◌}
+use Prim.Native.Nat.{ℕ, ◌+◌, ◌-◌, ◌/◌, ◌<◌, ◌≤◌}
 use native.Mathlib.Omega.{arith}
 use borrow.Author.Tests.{lt-ltb, le-ltb}
-use lib.Bits.{bit_and}
-use lib.Count.{count_trailing_zeros}
-use lib.ListN.{length, get_or, replicate, length-replicate}
-use Rattle.bondset.specs.declared.indexed.Index.{Index}
-use Rattle.bondset.specs.Sets.{members}
-use Rattle.bondset.proofs.IndexPush.{indexed_none}
+use lib.ListN.{replicate}
+use Rattle.std.specs.Prelude.{Some}
 use Rattle.model.specs.Fold.{through, count}
 use Rattle.model.specs.Net.{Net, preceding}
 use Rattle.model.specs.Layer.{layers_into}
-use Rattle.model.specs.Loops.{Running, running, seek, tops, top_loop, length_loop, length_round}
-use Rattle.model.proofs.NetRead.{get_or_zeros}
+use Rattle.model.specs.Loops.{Running, running, seek, top_loop, length_loop, length_round}
 use Rattle.atoms.specs.Nets.{neighbours}
-use Rattle.atoms.proofs.Loops.{Over, over_lowest, over_next, Upto, upto_next}
+use Rattle.atoms.specs.declared.nets.Net as code
+use Rattle.atoms.proofs.Loops.{Upto, upto_start, upto_next}
 use Rattle.search.proofs.Same.{layers_into_same}
-use Rattle.counting.proofs.Layered.{layers_disjoint}
-use Rattle.ledger.specs.declared.Tally.{Tally}
-use Rattle.ledger.specs.Ledger.{Ledger}
-use Rattle.ledger.specs.Held.{Sized, Fit, Settles}
+use Rattle.ledger.specs.Ledger.{Ledger, settled_in, unmarked}
 use Rattle.candidates.specs.declared.Going.{Going}
+use Rattle.candidates.specs.Nets.{graph}
 use Rattle.candidates.specs.Engine.{Engine, attempted}
-use Rattle.engine.specs.Lengths.{settled_by, round_by, begun, run_by, Rounds, Runs}
-use Rattle.candidates.specs.Going.{graph, engine_of, Place, Tries}
+use Rattle.candidates.specs.Going.{engine_of, Tries}
+use Rattle.engine.specs.declared.lengths.Running as run
+use Rattle.engine.specs.Lengths.{settled_by, round_by, begun, run_by, running_of, Runs}
 
 -- ---- one top atom
 
--- The top atom is one of 64.
-pub top_atom : {S : Type 0} (step : ℕ → S → S) {s x r : ℕ} {start state : S} → 0 < x → r ≡ count_trailing_zeros 64 x → Over step s start x state → r < 64
-top_atom step pos at over = rw at (over_lowest step pos over)
-
--- There is a layer for half the length.
-pub half_deep : (k long long₀ : ℕ) → k ≤ 64 → 33 ≤ long₀ → long ≡ long₀ → k / 2 < long
-half_deep k long long₀ short deep e = omega arith
-
--- The layers that were written share no atom.
-pub top_place : (adj touch layers counts layers' : List ℕ) (k r pre : ℕ) → ((a : ℕ) → get_or adj a 0 < 2 ^ 64)
-    → r < 64 → 64 ≤ length adj → 128 ≤ length touch → k / 2 < length layers → 64 ≤ length counts
-    → layers' ≡ layers_into (neighbours adj) pre r (k / 2) layers → length layers' ≡ length layers → Place adj touch layers' counts (k / 2)
-top_place adj touch layers counts layers' k r pre words inside atoms bonds deep room e long = record {
-  atoms = atoms;
-  bonds = bonds;
-  deep = omega arith;
-  room = room;
-  disjoint = rw e (layers_disjoint (neighbours adj) pre r words inside (k / 2) layers (omega arith) (k / 2) (omega arith));
-}
-
 -- The layers are written, and then the candidates are tried.
-top_is : (n : ℕ) (adj touch : List ℕ) (from k r pre : ℕ) {s t : Going} (layers rows tags pivots labels holds out table sizes : List ℕ)
-    {layers' rows' tags' pivots' labels' holds' out' sizes' place' : List ℕ}
-    → pre ≡ preceding r → layers' ≡ layers_into (neighbours adj) pre r (k / 2) layers
-    → Tries (seek (graph n adj touch) (attempted (graph n adj touch) from) k r layers') s rows tags pivots labels holds out sizes
-    t rows' tags' pivots' labels' holds' out' sizes' place'
-    → running layers' (engine_of t rows' tags' pivots' labels' holds' out' table sizes')
-    ≡ top_loop (graph n adj touch) (attempted (graph n adj touch) from) preceding k r (running layers (engine_of s rows tags pivots labels holds out table sizes))
+pub top_is : (net : code.Net) (from k r : ℕ) {before after : Going} (us out table sizes : List ℕ) {us' out' sizes' : List ℕ}
+    → us' ≡ layers_into (neighbours net.adj) (preceding r) r (k / 2) us
+    → Tries (seek (graph net) (attempted (graph net) from) k r us') before out sizes after out' sizes'
+    → running us' (engine_of after out' table sizes') ≡ top_loop (graph net) (attempted (graph net) from) preceding k r (running us (engine_of before out table sizes))
 unfolding top_loop
-top_is n adj touch from k r pre {s} layers rows tags pivots labels holds out table sizes {layers'} at e tries =
-    ap (λ (E : Engine). running layers' E) (tries.is table)
-    ∙ ap (λ (us : List ℕ). running us (seek G (attempted G from) k r us (engine_of s rows tags pivots labels holds out table sizes))) written
+top_is net from k r {before} us out table sizes {us'} e tries =
+    ap (λ (E : Engine). running us' E) (tries.is table)
+    ∙ ap (λ (us : List ℕ). running us (seek G (attempted G from) k r us (engine_of before out table sizes)))
+    (e ∙ layers_into_same G (preceding r) r (k / 2) us)
   where
     G : Net
-    G = graph n adj touch
-
-    written : layers' ≡ layers_into G (preceding r) r (k / 2) layers
-    written = e ∙ layers_into_same G pre r (k / 2) layers ∙ ap (λ (x : ℕ). layers_into G x r (k / 2) layers) at
-
--- ---- all top atoms
-
--- One turn of a loop over the atoms of a set.
-over_turn : {S : Type 0} (step : ℕ → S → S) {s x x' j : ℕ} {start state state' : S}
-    → 0 < x → j ≡ count_trailing_zeros 64 x → x' ≡ bit_and x (x - 1) → state' ≡ step j state → Over step s start x state → Over step s start x' state'
-over_turn step pos at left e over = rw (left, e, at) (over_next step pos over)
-
--- One top atom more.
-pub top_turn : (n : ℕ) (adj touch : List ℕ) (from k r pre : ℕ) {atoms x x' : ℕ} {begin : Running Engine} {s t : Going}
-    (layers rows tags pivots labels holds out table sizes : List ℕ) {layers' rows' tags' pivots' labels' holds' out' sizes' place' : List ℕ}
-    → 0 < x → r ≡ count_trailing_zeros 64 x → x' ≡ bit_and x (x - 1) → pre ≡ preceding r → layers' ≡ layers_into (neighbours adj) pre r (k / 2) layers
-    → Tries (seek (graph n adj touch) (attempted (graph n adj touch) from) k r layers') s rows tags pivots labels holds out sizes
-    t rows' tags' pivots' labels' holds' out' sizes' place'
-    → Over (top_loop (graph n adj touch) (attempted (graph n adj touch) from) preceding k) atoms begin x
-    (running layers (engine_of s rows tags pivots labels holds out table sizes))
-    → Over (top_loop (graph n adj touch) (attempted (graph n adj touch) from) preceding k) atoms begin x'
-    (running layers' (engine_of t rows' tags' pivots' labels' holds' out' table sizes'))
-top_turn n adj touch from k r pre layers rows tags pivots labels holds out table sizes pos at left before written tries over =
-    over_turn (top_loop (graph n adj touch) (attempted (graph n adj touch) from) preceding k) pos at left
-    (top_is n adj touch from k r pre layers rows tags pivots labels holds out table sizes before written tries) over
+    G = graph net
 
 -- ---- one length
 
-module _ (G : Net) (from full k : ℕ) {s : Going} {layers rows tags pivots labels holds out table sizes : List ℕ} where
+module _ (G : Net) (from full k : ℕ) (s : Running Engine) where
   -- All top atoms are tried, and the length is settled.
-  pub round_is : {atoms : ℕ} {t : Going} {r : Tally} {layers' rows' tags' pivots' labels' holds' out' sizes' labels'' out'' table' place' : List ℕ}
-      → atoms ≡ tops G preceding → s.tally.marks < full
-      → running layers' (engine_of t rows' tags' pivots' labels' holds' out' table sizes')
-      ≡ through (top_loop G (attempted G from) preceding k) (members 64 atoms) (running layers (engine_of s rows tags pivots labels holds out table sizes))
-      → Sized rows' tags' pivots' place' t.tally.index t.tally.marks
-      → Settles k s.tally.families t.tally labels' holds' out' table r labels'' out'' table'
-      → Rounds (round_by G from full k) s layers rows tags pivots labels holds out table sizes
-      (record { tally = r; rings = t.rings }) layers' rows' tags' pivots' labels'' holds' out'' table' sizes' place'
-  unfolding length_round length_loop settled_by
-  round_is {t = t} {layers' = layers'} {rows' = rows'} {tags' = tags'} {pivots' = pivots'} {sizes' = sizes'} {place' = place'} at more tried sized settled = record {
-    is =
-        ap (λ (L : Ledger). running layers' (record { ledger = L; rings = t.rings; sizes = sizes' })) (settled.is rows' tags' pivots')
-        ∙ ap finish tried ∙ ap (λ (a : ℕ). finish (through turn (members 64 a) start)) at
-        ∙ sym (ap (λ (b : Bool). cond b (finish (length_loop G (attempted G from) preceding k start)) start) (lt-ltb s.tally.marks full more));
-    sized = settled.still rows' tags' pivots' place' sized;
-    fit = settled.fit;
-  }
+  pub round_is : {t : Running Engine} {L : Ledger} → s.state.ledger.marks < full → t ≡ length_loop G (attempted G from) preceding k s
+      → L ≡ settled_in k s.state.ledger.families t.state.ledger
+      → running t.layers (record { ledger = L; rings = t.state.rings; sizes = t.state.sizes }) ≡ round_by G from full k s
+  unfolding length_round settled_by
+  round_is {t} more tried settled =
+      ap (λ (L : Ledger). running t.layers (record { ledger = L; rings = t.state.rings; sizes = t.state.sizes })) settled
+      ∙ ap finish tried
+      ∙ sym (ap (λ (b : Bool). cond b (finish (length_loop G (attempted G from) preceding k s)) s) (lt-ltb s.state.ledger.marks full more))
     where
-      start : Running Engine
-      start = running layers (engine_of s rows tags pivots labels holds out table sizes)
-
-      turn : ℕ → Running Engine → Running Engine
-      turn = top_loop G (attempted G from) preceding k
-
       finish : Running Engine → Running Engine
-      finish x = running x.layers (settled_by k (engine_of s rows tags pivots labels holds out table sizes) x.state)
+      finish x = running x.layers (settled_by k s.state x.state)
 
   -- The basis is full: nothing is done.
-  pub round_full : full ≤ s.tally.marks → {place : List ℕ} → Sized rows tags pivots place s.tally.index s.tally.marks → Fit labels holds s.tally
-      → Rounds (round_by G from full k) s layers rows tags pivots labels holds out table sizes s layers rows tags pivots labels holds out table sizes place
+  pub round_full : full ≤ s.state.ledger.marks → s ≡ round_by G from full k s
   unfolding length_round
-  round_full l sized fit = record { is = rw (le-ltb s.tally.marks full l); sized = sized; fit = fit }
+  round_full l = rw (le-ltb s.state.ledger.marks full l)
 
 -- ---- all lengths
 
@@ -136,50 +69,31 @@ length_turn_lem step {k} {start} {state} {next} l e upto =
     let i : k + 1 - 3 ≡ k - 3 + 1 = omega arith in
     rw i (upto_next step (omega arith) e upto)
 
--- ---- from nothing
+-- Nothing is counted before the first length.
+pub run_start : (step : ℕ → Running Engine → Running Engine) {L : Ledger} {out table sizes : List ℕ} → L ≡ unmarked out table
+    → Upto step 3 (running (replicate 33 0) (begun out table sizes)) 0 (running (replicate 33 0) (record { ledger = L; rings = Some 0; sizes = sizes }))
+unfolding begun
+run_start step e = rw e (upto_start step 3 _)
 
--- No row is found.
-abbrev pub unindexed : Index
-unindexed = record { fresh = record { lo = 0; hi = 0 }; late = record { lo = 0; hi = 0 }; all = record { lo = 0; hi = 0 } }
-
-pub sized_start : Sized (replicate 164 0) (replicate 164 0) (replicate 82 0) (replicate 128 0) unindexed 0
-sized_start = record {
-  rows_long = length-replicate {A = ℕ} 164 0;
-  tags_long = length-replicate {A = ℕ} 164 0;
-  pivots_long = length-replicate {A = ℕ} 82 0;
-  place_long = length-replicate {A = ℕ} 128 0;
-  indexed = indexed_none (replicate 164 0) (replicate 82 0) (replicate 128 0);
-}
-
-pub fit_start : Fit (replicate 82 0) (replicate 82 0) (record { marks = 0; short = 0; families = 0; classes = 0; total = 0; index = unindexed })
-fit_start = record {
-  labels_long = length-replicate {A = ℕ} 82 0;
-  holds_long = length-replicate {A = ℕ} 82 0;
-  labelled = record { below = λ i. omega (arith, get_or_zeros 82 i) };
-  marks_fit = omega arith;
-  short_fit = omega arith;
-  classes_fit = omega arith;
-  total_fit = omega arith;
-}
-
--- What the lengths do to the state before the first is what the engine does.
-pub run_is : (G : Net) (from full : ℕ) {s r : Going} {out table sizes layers' rows' tags' pivots' labels' holds' out' table' sizes' place' : List ℕ}
-    → engine_of s (replicate 164 0) (replicate 164 0) (replicate 82 0) (replicate 82 0) (replicate 82 0) out table sizes ≡ begun out table sizes
-    → Rounds (through (round_by G from full) (count 3 (G.n - 2))) s
-    (replicate 33 0) (replicate 164 0) (replicate 164 0) (replicate 82 0) (replicate 82 0) (replicate 82 0) out table sizes
-    r layers' rows' tags' pivots' labels' holds' out' table' sizes' place'
-    → Runs G from full out table sizes r out' table' sizes'
+-- What the lengths leave is what the engine does.
+pub run_is : (G : Net) (from full : ℕ) (t : run.Running) {out table sizes out' table' sizes' : List ℕ}
+    → running_of t out' table' sizes' ≡ through (round_by G from full) (count 3 (G.n - 2)) (running (replicate 33 0) (begun out table sizes))
+    → let tally = t.going.ledger.classes.tally in
+    Runs G from full out table sizes (record { families = tally.families; classes = tally.classes; total = tally.total; rings = t.going.rings }) out' table' sizes'
 unfolding run_by
-run_is G from full {rows' = rows'} {tags' = tags'} {pivots' = pivots'} {labels' = labels'} {holds' = holds'} e rounds = record {
-  ran = (
-    rows',
-    tags',
-    pivots',
-    labels',
-    holds',
-    ap (λ (x : Running Engine). x.state)
-        (rounds.is ∙ ap (λ (E : Engine). through (round_by G from full) (count 3 (G.n - 2)) (running (replicate 33 0) E)) e),
-  );
-  few_marks = rounds.fit.marks_fit;
-  few_classes = omega (arith, rounds.fit.classes_fit, rounds.fit.short_fit, rounds.fit.marks_fit);
-}
+run_is G from full t {out} {table} {sizes} {out'} {table'} {sizes'} all =
+    let tally = t.going.ledger.classes.tally in
+    record {
+      families = ap (λ (E : Engine). E.ledger.families) is;
+      classes = ap (λ (E : Engine). E.ledger.classes) is;
+      total = ap (λ (E : Engine). E.ledger.total) is;
+      rings = ap (λ (E : Engine). E.rings) is;
+      rows = ap (λ (E : Engine). E.ledger.out) is;
+      class_rows = ap (λ (E : Engine). E.ledger.table) is;
+      sized = ap (λ (E : Engine). E.sizes) is;
+      few_marks = omega (arith, ap (λ (E : Engine). E.ledger.marks) is, tally.marks_fit);
+      few_classes = omega (arith, tally.classes_fit, tally.short_fit, tally.marks_fit);
+    }
+  where
+    is : engine_of t.going out' table' sizes' ≡ run_by G from full out table sizes
+    is = ap (λ (x : Running Engine). x.state) all

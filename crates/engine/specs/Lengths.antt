@@ -1,13 +1,13 @@
 -- All lengths over the engine's state, and what the code promises of them.
-use Rattle.std.specs.Prelude.{◌≡◌, List, ℕ, ◌-◌, ◌≤◌, replicate}
+use Rattle.std.specs.Prelude.{◌≡◌, List, ℕ, Some, ◌-◌, ◌≤◌, replicate}
 use Rattle.model.specs.Fold.{through, count}
 use Rattle.model.specs.Net.{Net, preceding}
 use Rattle.model.specs.Loops.{Running, running, length_round}
-use Rattle.ledger.specs.Ledger.{settled_in}
-use Rattle.ledger.specs.Held.{Sized, Fit}
-use Rattle.candidates.specs.declared.Going.{Going}
+use Rattle.ledger.specs.Ledger.{settled_in, unmarked}
 use Rattle.candidates.specs.Engine.{Engine, attempted}
 use Rattle.candidates.specs.Going.{engine_of}
+use Rattle.engine.specs.declared.Found.{Found}
+use Rattle.engine.specs.declared.lengths.Running as code
 
 -- The end of a length.
 unfoldable pub settled_by : ℕ → Engine → Engine → Engine
@@ -15,26 +15,7 @@ settled_by k before after = record { ledger = settled_in k before.ledger.familie
 
 -- Before the first length, with the buffers as lent.
 unfoldable pub begun : List ℕ → List ℕ → List ℕ → Engine
-begun out table sizes =
-    record {
-      ledger =
-          record {
-            marks = 0;
-            short = 0;
-            families = 0;
-            classes = 0;
-            total = 0;
-            rows = replicate 164 0;
-            tags = replicate 164 0;
-            pivots = replicate 82 0;
-            labels = replicate 82 0;
-            holds = replicate 82 0;
-            out = out;
-            table = table;
-          };
-      rings = record { rings = 0; over = 0 };
-      sizes = sizes;
-    }
+begun out table sizes = record { ledger = unmarked out table; rings = Some 0; sizes = sizes }
 
 module _ (G : Net) (from full : ℕ) where
   -- One length, and its classes; nothing once the basis is full.
@@ -45,17 +26,18 @@ module _ (G : Net) (from full : ℕ) where
   unfoldable pub run_by : List ℕ → List ℕ → List ℕ → Engine
   run_by out table sizes = (through round_by (count 3 (G.n - 2)) (running (replicate 33 0) (begun out table sizes))).state
 
--- A length is tried and settled: the layers and the class rows change too.
-pub record Rounds (F : Running Engine → Running Engine) (s : Going) (layers rows tags pivots labels holds out table sizes : List ℕ)
-    (r : Going) (layers' rows' tags' pivots' labels' holds' out' table' sizes' place' : List ℕ) : Type 0 where
-  pub is : running layers' (engine_of r rows' tags' pivots' labels' holds' out' table' sizes')
-      ≡ F (running layers (engine_of s rows tags pivots labels holds out table sizes))
-  pub sized : Sized rows' tags' pivots' place' r.tally.index r.tally.marks
-  pub fit : Fit labels' holds' r.tally
+-- A run under way in the model's terms, with family rows, class rows and sizes as lent.
+abbrev pub running_of : code.Running → List ℕ → List ℕ → List ℕ → Running Engine
+running_of s out table sizes = running s.layers (engine_of s.going out table sizes)
 
--- All lengths were tried and settled, from nothing; the lists of the ledger that no caller sees are whatever they are.
-pub record Runs (G : Net) (from full : ℕ) (out table sizes : List ℕ) (r : Going) (out' table' sizes' : List ℕ) : Type 0 where
-  pub ran : (rows : List ℕ) × (tags : List ℕ) × (pivots : List ℕ) × (labels : List ℕ) × (holds : List ℕ)
-      × (engine_of r rows tags pivots labels holds out' table' sizes' ≡ run_by G from full out table sizes)
-  pub few_marks : r.tally.marks ≤ 82
-  pub few_classes : r.tally.classes ≤ 82
+-- All lengths were tried and settled, from nothing: what was found, and the buffers.
+pub record Runs (G : Net) (from full : ℕ) (out table sizes : List ℕ) (r : Found) (out' table' sizes' : List ℕ) : Type 0 where
+  pub families : r.families ≡ (run_by G from full out table sizes).ledger.families
+  pub classes : r.classes ≡ (run_by G from full out table sizes).ledger.classes
+  pub total : r.total ≡ (run_by G from full out table sizes).ledger.total
+  pub rings : r.rings ≡ (run_by G from full out table sizes).rings
+  pub rows : out' ≡ (run_by G from full out table sizes).ledger.out
+  pub class_rows : table' ≡ (run_by G from full out table sizes).ledger.table
+  pub sized : sizes' ≡ (run_by G from full out table sizes).sizes
+  pub few_marks : (run_by G from full out table sizes).ledger.marks ≤ 82
+  pub few_classes : r.classes ≤ 82

@@ -7,21 +7,21 @@ use Rattle.answers.specs.Answered.{family_bytes, class_bytes, over, size_of}
 use Rattle.model.specs.Net.{adj_of, touch_of}
 use Rattle.model.specs.Run.{report}
 use Rattle.counting.specs.Counts.{counted}
-use Rattle.candidates.specs.declared.Going.{Going}
+use Rattle.atoms.specs.declared.nets.Net as code
+use Rattle.engine.specs.declared.Found.{Found}
 
--- The compound is accepted, and these are the neighbours and the bonds of each atom.
-pub record Stands (c : Compound) (adj touch : List ℕ) : Type 0 where
+-- The compound is accepted, and the net holds its atoms, and the neighbours and the bonds of each.
+pub record Stands (c : Compound) (net : code.Net) : Type 0 where
   pub accepted : Accepted c
-  pub neighbours : adj ≡ adj_of c (m c)
-  pub bonds : touch ≡ touch_of c (m c)
-  pub adj_long : length adj ≡ 64
-  pub touch_long : length touch ≡ 128
+  pub atoms : net.n ≡ c.n
+  pub neighbours : net.adj ≡ adj_of c (m c)
+  pub bonds : net.touch ≡ touch_of c (m c)
 
 -- The numbers of the report, and as much of it as there is room for, over the buffers as lent; sizes are told where all rings can be counted.
-pub record Reports (c : Compound) (from : ℕ) (out table sizes : List ℕ) (r : Going) (out' table' sizes' : List ℕ) : Type 0 where
-  pub families : r.tally.families ≡ (report c).families
-  pub classes : r.tally.classes ≡ (report c).classes
-  pub total : r.tally.total ≡ (report c).total
+pub record Reports (c : Compound) (from : ℕ) (out table sizes : List ℕ) (r : Found) (out' table' sizes' : List ℕ) : Type 0 where
+  pub families : r.families ≡ (report c).families
+  pub classes : r.classes ≡ (report c).classes
+  pub total : r.total ≡ (report c).total
   pub rings : r.rings ≡ counted most (report c).rings
   pub rows : (report c).families ≤ length out / 8 → out' ≡ over (family_bytes (report c).rows) out
   pub class_rows : (report c).families ≤ 4096 → (report c).classes ≤ length table / 5 → table' ≡ over (class_bytes (report c).class_rows) table

@@ -9,10 +9,23 @@ ghost use Rattle.std.specs.Prelude.{◌≡◌, ◌+◌, ◌-◌, ◌/◌, ◌≤
 ghost use Rattle.reading.specs.Reading.{compound};
 ghost use Rattle.engine.specs.Reports.{Stands, Reports};
 
-use candidates::Going;
+use atoms::Net;
 
 /// The loops over lengths and top atoms.
 pub mod lengths;
+
+/// What a run found.
+#[derive(Clone, Copy, Debug, PartialEq, Eq)]
+pub struct Found {
+    /// The kept families.
+    pub families: usize,
+    /// Their classes.
+    pub classes: usize,
+    /// The total length of the marked rings.
+    pub total: u64,
+    /// The number of rings: none if there are more than a word can say.
+    pub rings: Option<u64>,
+}
 
 /// The cyclomatic number, of a compound in one piece.
 pub fn cyclomatic(n: usize, bonds: &[u8]) -> usize
@@ -22,23 +35,20 @@ pub fn cyclomatic(n: usize, bonds: &[u8]) -> usize
     bonds.len() / 2 + 1 - n
 }
 
-/// Runs the engine on a compound: as many rows as there is room for go into `out` and `table`, and the sizes of the families
-/// from row `from` on into `sizes`.
+/// Runs the engine on a compound, read into `net`: as many rows as there is room for go into `out` and `table`, and the sizes of the
+/// families from row `from` on into `sizes`.
 pub fn report(
-    n: usize,
+    net: &Net,
     bonds: &[u8],
-    adj: &[u64],
-    touch: &[u64],
     from: usize,
     out: &mut [u8],
     table: &mut [u8],
     sizes: &mut [u64],
-) -> Going
-    requires { Stands (compound n bonds.now) adj.now touch.now }
-    ensures { Reports (compound n bonds.now) from out.old table.old sizes.old
+) -> Found
+    requires { Stands (compound net.now.n bonds.now) net.now }
+    ensures { Reports (compound net.now.n bonds.now) from out.old table.old sizes.old
         result out.new table.new sizes.new }
 {
-    let full = cyclomatic(n, bonds);
-    let tops = atoms::tops(n, adj);
-    lengths::run(n, adj, touch, tops, full, from, out, table, sizes)
+    let full = cyclomatic(net.n, bonds);
+    lengths::run(net, full, from, out, table, sizes)
 }

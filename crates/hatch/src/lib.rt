@@ -3,18 +3,18 @@
 
 #![tactic(auto)]
 
-ghost use Rattle.std.specs.Prelude.{◌≡◌, take};
+ghost use Rattle.std.specs.Prelude.{◌≡◌, Ok, Err};
 ghost use Rattle.answers.specs.Answered.{Answered, AnsweredFirst};
-ghost use Rattle.rings.specs.Calls.{told};
-ghost use Rattle.records.specs.Records.{flattened, lent_bytes};
+ghost use Rattle.rings.specs.Calls.{told, told_sized};
+ghost use Rattle.records.specs.Records.{flattened};
 ghost use Rattle.hatch.specs.Replies.{told_by, reply_of, with_size};
 
 use records::Bond;
-use rings::Answer;
+use rings::{Answer, Full, Refusal, Sized};
 
 /// What a call answers: a refusal's number and what it names, or 0 twice and the numbers. In a refusal the numbers are 0.
 #[repr(C)]
-#[derive(Clone, Copy)]
+#[derive(Clone, Copy, Default)]
 pub struct Reply {
     /// 0 if the compound is answered in full, or the refusal's number, 1 to 9.
     pub refusal: u64,
@@ -34,39 +34,55 @@ pub struct Reply {
     pub size: u64,
 }
 
-/// An answer in fields, with the size asked for.
-fn replied(a: Answer, size: u64) -> Reply
-    ensures { result ≡ reply_of (told a size) }
-{
-    match a {
-        Answer::Full {
-            cyclomatic,
-            families,
-            classes,
-            total,
-            rings,
-        } => Reply {
-            refusal: 0,
-            at: 0,
-            cyclomatic,
-            families,
-            classes,
-            total,
-            rings,
+impl Reply {
+    /// The numbers of a full answer, and the size asked for.
+    #[tactic(auto, unfolding(rings::specs::Calls::told, crate::specs::Replies::reply_of))]
+    fn full(full: Full, size: u64) -> Reply
+        ensures { result ≡ reply_of (told (Ok full) size) }
+    {
+        Reply {
+            cyclomatic: full.cyclomatic,
+            families: full.families,
+            classes: full.classes,
+            total: full.total,
+            rings: full.rings,
             size,
-        },
-        _ => {
-            let refusal = rings::refusal_of(a);
-            Reply {
-                refusal: refusal.number,
-                at: refusal.at,
-                cyclomatic: 0,
-                families: 0,
-                classes: 0,
-                total: 0,
-                rings: 0,
-                size: 0,
-            }
+            ..Reply::default()
+        }
+    }
+
+    /// A refusal, with no number of a full answer.
+    #[tactic(auto, unfolding(rings::specs::Calls::told, crate::specs::Replies::reply_of))]
+    fn refused(refusal: Refusal) -> Reply
+        ensures { result ≡ reply_of (told (Err refusal) 0) }
+    {
+        Reply {
+            refusal: refusal.number(),
+            at: refusal.at(),
+            ..Reply::default()
+        }
+    }
+}
+
+impl From<Answer> for Reply {
+    ghost from_gives = { λ answer reply. reply ≡ reply_of (told answer 0) };
+
+    fn from(answer: Answer) -> Reply {
+        match answer {
+            Ok(full) => Reply::full(full, 0),
+            Err(refusal) => Reply::refused(refusal),
+        }
+    }
+}
+
+impl From<Result<Sized, Refusal>> for Reply {
+    ghost from_gives = { λ answer reply. reply ≡ reply_of (told_sized answer) };
+
+    #[tactic(auto, unfolding(rings::specs::Calls::told_sized))]
+    fn from(answer: Result<Sized, Refusal>) -> Reply {
+        match answer {
+            Ok(Sized { full, size }) => Reply::full(full, size),
+            Err(refusal) => Reply::refused(refusal),
         }
     }
 }
@@ -83,8 +99,7 @@ pub extern "C" fn rings_families(
         family_rows.new class_rows.new }
     ensures plain { result ≡ reply_of (with_size (told_by result) 0) }
 {
-    let answer = rings::families(n, bonds, family_rows, class_rows);
-    replied(answer, 0)
+    rings::families(n, bonds, family_rows, class_rows).into()
 }
 
 /// The same, and the size of the family of a row.
@@ -100,43 +115,7 @@ pub extern "C" fn rings_family_size(
         family_rows.new class_rows.new }
     ensures plain { result ≡ reply_of (told_by result) }
 {
-    let sized = rings::family_size(n, bonds, family_rows, class_rows, row);
-    let answer = sized.answer;
-    replied(answer, sized.size)
-}
-
-/// The ring families of a compound, from the bytes of so many records.
-fn families_copied(
-    n: usize,
-    count: usize,
-    all: [u8; 192],
-    family_rows: &mut [u8],
-    class_rows: &mut [u8],
-) -> Reply
-    ensures answered { AnsweredFirst n (take (lent_bytes count) all) family_rows.old class_rows.old (with_size (told_by result))
-        family_rows.new class_rows.new }
-    ensures plain { result ≡ reply_of (with_size (told_by result) 0) }
-{
-    let found = records::families_copied(n, count, all, family_rows, class_rows);
-    replied(found, 0)
-}
-
-/// The same, and the size of the family of a row.
-fn family_size_copied(
-    n: usize,
-    count: usize,
-    all: [u8; 192],
-    family_rows: &mut [u8],
-    class_rows: &mut [u8],
-    row: usize,
-) -> Reply
-    ensures answered { Answered n (take (lent_bytes count) all) family_rows.old class_rows.old row (told_by result)
-        family_rows.new class_rows.new }
-    ensures plain { result ≡ reply_of (told_by result) }
-{
-    let found = records::family_size_copied(n, count, all, family_rows, class_rows, row);
-    let answer = found.answer;
-    replied(answer, found.size)
+    rings::family_size(n, bonds, family_rows, class_rows, row).into()
 }
 
 /// The ring families of a compound of `n` atoms, whose bonds are lent as records.
@@ -151,8 +130,7 @@ pub extern "C" fn rings_families_of(
         family_rows.new class_rows.new }
     ensures plain { result ≡ reply_of (with_size (told_by result) 0) }
 {
-    let all = records::copied(bonds);
-    families_copied(n, bonds.len(), all, family_rows, class_rows)
+    records::families_of(n, bonds, family_rows, class_rows).into()
 }
 
 /// The same, and the size of the family of a row.
@@ -168,6 +146,5 @@ pub extern "C" fn rings_family_size_of(
         family_rows.new class_rows.new }
     ensures plain { result ≡ reply_of (told_by result) }
 {
-    let all = records::copied(bonds);
-    family_size_copied(n, bonds.len(), all, family_rows, class_rows, row)
+    records::family_size_of(n, bonds, family_rows, class_rows, row).into()
 }

@@ -7,11 +7,10 @@ use native.Mathlib.Omega.{arith}
 use lib.Dec.{eqb}
 use lib.ListN.{length, take, drop, length-append, length-drop}
 use lib.Seq.{take-nil}
+use Rattle.std.specs.Prelude.{Option, Some, None}
 use Rattle.housetext.specs.declared.Found.{Found}
-use Rattle.housetext.specs.declared.Found.TheVariants.{Value, Missing}
 use Rattle.housetext.specs.declared.BondLine.{BondLine}
-use Rattle.housetext.specs.declared.BondLine.TheVariants.{Bond, Broken}
-use Rattle.housetext.specs.Text.{newline, dash, atoms_word, bonds_word, bond_word, field, bond_line, starts, field_below, field_at, bond_at}
+use Rattle.housetext.specs.Text.{newline, dash, atoms_word, bonds_word, bond_word, field, bond_line, starts, found, field_below, field_at, bond, bond_at}
 use Rattle.housetext.specs.Text.{on_found, on_bond, Said, passes, refuses, Reading, bonds_from, reads}
 use Rattle.housetext.proofs.Decimal.{decimal_length}
 use Rattle.housetext.proofs.Fields.{field_sound}
@@ -48,23 +47,24 @@ module _ (word : List ℕ) (end : ℕ) (text : List ℕ) where
   unfolding field_at
   field_beginning k l = below_beginning 256 k (omega arith) l
 
-  found_long : {n i : ℕ} → field_at word end text ≡ Value n i → i ≤ length word + 4
+  found_long : {n i : ℕ} → field_at word end text ≡ found n i → i ≤ length word + 4
   found_long {n} e = let w = field_sound word end text e in omega (arith, w.long, field_long word end n w.small)
 
 bond_beginning : (text : List ℕ) (k : ℕ) → 13 ≤ k → bond_at (take k text) ≡ bond_at text
 unfolding bond_at
 bond_beginning text k h = rw (field_beginning bond_word dash text k (omega arith)) (go (field_at bond_word dash text) refl)
   where
-    go : (f : Found) → field_at bond_word dash text ≡ f
-        → on_found f Broken (λ a i. on_found (field_at [] newline (drop i (take k text))) Broken (λ b j. Bond a b (i + j)))
-        ≡ on_found f Broken (λ a i. on_found (field_at [] newline (drop i text)) Broken (λ b j. Bond a b (i + j)))
-    go Missing e = refl
-    go (Value a i) e =
+    go : (f : Option Found) → field_at bond_word dash text ≡ f
+        → on_found f None (λ a i. on_found (field_at [] newline (drop i (take k text))) None (λ b j. bond a b (i + j)))
+        ≡ on_found f None (λ a i. on_found (field_at [] newline (drop i text)) None (λ b j. bond a b (i + j)))
+    go None e = refl
+    go (Some number) e =
+        let i = number.next in
         let l = found_long bond_word dash text e in
         rw (drop_take i k text (omega arith), field_beginning [] newline (drop i text) (k - i) (omega arith))
 
 -- a bond line has at most 13 bytes
-bond_long : (text : List ℕ) {a b k : ℕ} → bond_at text ≡ Bond a b k → k ≤ 13
+bond_long : (text : List ℕ) {a b k : ℕ} → bond_at text ≡ bond a b k → k ≤ 13
 unfolding bond_line
 bond_long text {a} {b} {k} e =
     let w = bond_sound text e in
@@ -94,14 +94,17 @@ bonds_begun s line (suc left) k text done h =
     rw (bond_beginning text k (omega arith))
     (go (bond_at text) refl (λ a b i. bonds_begun s (line + 1) left (k - i) (drop i text) (done ++ a ∷ b ∷ [])))
   where
-    go : (l : BondLine) → bond_at text ≡ l
+    go : (l : Option BondLine) → bond_at text ≡ l
         → ((a b i : ℕ) → 13 * left < k - i → Begun (13 * left) (drop i text) (bonds_from s (line + 1) left (drop i text) (done ++ a ∷ b ∷ []))
         (bonds_from s (line + 1) left (take (k - i) (drop i text)) (done ++ a ∷ b ∷ [])))
         → Begun (13 * suc left) text
         (on_bond l (record { says = refuses 10 line; bytes = done }) (λ a b i. bonds_from s (line + 1) left (drop i text) (done ++ a ∷ b ∷ [])))
         (on_bond l (record { says = refuses 10 line; bytes = done }) (λ a b i. bonds_from s (line + 1) left (drop i (take k text)) (done ++ a ∷ b ∷ [])))
-    go Broken e more = record { same = refl; departs = λ l. (line, refl) }
-    go (Bond a b i) e more =
+    go None e more = record { same = refl; departs = λ l. (line, refl) }
+    go (Some line) e more =
+        let a = line.a in
+        let b = line.b in
+        let i = line.next in
         let n = bond_long text e in
         let w = more a b i (omega arith) in
         rw (drop_take i k text (omega arith)) (record { same = w.same; departs = λ l. w.departs (omega (arith, length-drop i text)) })
@@ -116,12 +119,14 @@ reads_begun : (k : ℕ) (text : List ℕ) → 3335 < k → Begun 3335 text (read
 unfolding reads
 reads_begun k text h = rw (field_beginning atoms_word newline text k (omega arith)) (first (field_at atoms_word newline text) refl)
   where
-    second : (n i : ℕ) → i ≤ 10 → (f : Found) → field_at bonds_word newline (drop i text) ≡ f
+    second : (n i : ℕ) → i ≤ 10 → (f : Option Found) → field_at bonds_word newline (drop i text) ≡ f
         → Begun 3335 text
         (on_found f (record { says = refuses 10 2; bytes = [] }) (λ m j. bonds_from (passes n m) 3 m (drop j (drop i text)) []))
         (on_found f (record { says = refuses 10 2; bytes = [] }) (λ m j. bonds_from (passes n m) 3 m (drop j (take (k - i) (drop i text))) []))
-    second n i l Missing e = record { same = refl; departs = λ more. (2, refl) }
-    second n i l (Value m j) e =
+    second n i l None e = record { same = refl; departs = λ more. (2, refl) }
+    second n i l (Some number) e =
+        let m = number.value in
+        let j = number.next in
         let v = field_sound bonds_word newline (drop i text) e in
         let b = found_long bonds_word newline (drop i text) e in
         let w = bonds_begun (passes n m) 3 m (k - i - j) (drop j (drop i text)) [] (omega (arith, v.small)) in
@@ -131,11 +136,13 @@ reads_begun k text h = rw (field_beginning atoms_word newline text k (omega arit
           departs = λ more. w.departs (omega (arith, v.small, length-drop i text, length-drop j (drop i text)));
         })
 
-    first : (f : Found) → field_at atoms_word newline text ≡ f
+    first : (f : Option Found) → field_at atoms_word newline text ≡ f
         → Begun 3335 text (on_found f (record { says = refuses 10 1; bytes = [] }) (from_count text))
         (on_found f (record { says = refuses 10 1; bytes = [] }) (from_count (take k text)))
-    first Missing e = record { same = refl; departs = λ l. (1, refl) }
-    first (Value n i) e =
+    first None e = record { same = refl; departs = λ l. (1, refl) }
+    first (Some number) e =
+        let n = number.value in
+        let i = number.next in
         let l = found_long atoms_word newline text e in
         rw (drop_take i k text (omega arith), field_beginning bonds_word newline (drop i text) (k - i) (omega arith))
         (second n i l (field_at bonds_word newline (drop i text)) refl)

@@ -1,18 +1,19 @@
 -- Reading line by line: the laws that the loop over the bond lines cites.
-use mathlib.Core.Path.{◌≡◌, refl, sym, ap, subst, ◌∙◌}
+use mathlib.Core.Path.{◌≡◌, refl, sym, ap, ap₂, subst, ◌∙◌}
 use mathlib.Core.List.{List, [], ◌∷◌, ◌++◌, append_assoc}
 use Prim.Native.Nat.{ℕ, suc, ◌+◌, ◌-◌, ◌*◌, ◌<◌, ◌≤◌}
 use native.Mathlib.Numerals.{add-one}
 use native.Mathlib.Omega.{arith}
 use lib.ListN.{length, take, drop, set, length-set, length-drop, take-append-drop}
 use lib.Seq.{take-suc-set, drop-set-lt, drop-drop, length-take-le}
+use Rattle.std.specs.Prelude.{Option, Some, None, Result, Ok, Err}
+use Rattle.std.proofs.lemmas.Option.{none-some, same_Some}
 use Rattle.housetext.specs.declared.Found.{Found}
-use Rattle.housetext.specs.declared.Found.TheVariants.{Value, Missing}
-use Rattle.housetext.specs.declared.BondLine.TheVariants.{Bond, Broken}
-use Rattle.housetext.specs.Text.{newline, dash, atoms_word, bonds_word, bond_word, field, field_at, bond_at, bond_line}
-use Rattle.housetext.specs.Text.{on_found, Said, passes, refuses, said, bonds_from, Reading, reads, Answers}
+use Rattle.housetext.specs.declared.BondLine.{BondLine}
+use Rattle.housetext.specs.Text.{newline, dash, bond_word, field, found, field_at, bond, bond_at, bond_line}
+use Rattle.housetext.specs.Text.{on_found, Said, passes, refuses, said, bonds_from, Reading, Answers}
 use Rattle.housetext.specs.declared.Text.{Text}
-use Rattle.housetext.specs.declared.Text.TheVariants.{Read, Departs}
+use Rattle.housetext.specs.declared.Departure.{Departure}
 use Rattle.housetext.proofs.Starts.{remainder}
 use Rattle.housetext.proofs.Fields.{field_sound}
 
@@ -23,17 +24,25 @@ pub record Line (text : List ℕ) (a b k : ℕ) : Type 0 where
   pub there : text ≡ bond_line a b ++ drop k text
   pub fits : k ≤ length text
 
-pub bond_sound : (text : List ℕ) {a b k : ℕ} → bond_at text ≡ Bond a b k → Line text a b k
+-- a bond line that is found is one, and ends at one place
+bond_same : {a b k x y j : ℕ} → bond a b k ≡ bond x y j → (a ≡ x) × (b ≡ y) × (k ≡ j)
+bond_same {a} {b} {k} {x} {y} {j} e =
+    let same = same_Some (record { a = a; b = b; next = k }) (record { a = x; b = y; next = j }) e in
+    (ap (λ (l : BondLine). l.a) same, ap (λ (l : BondLine). l.b) same, ap (λ (l : BondLine). l.next) same)
+
+pub bond_sound : (text : List ℕ) {a b k : ℕ} → bond_at text ≡ bond a b k → Line text a b k
 unfolding bond_at bond_line
 bond_sound text {a} {b} {k} e = first (field_at bond_word dash text) refl e
   where
-    broken_not : {A : Type 0} → Broken ≡ Bond a b k → A
-    broken_not e = let z : ◌≡◌ {A = ℕ} 0 1 = cc in absurd (omega arith)
+    none_bond : {A : Type 0} → None ≡ bond a b k → A
+    none_bond e = absurd (none-some (record { a = a; b = b; next = k }) e)
 
-    second : (x i : ℕ) → field_at bond_word dash text ≡ Value x i → (f : Found) → field_at [] newline (drop i text) ≡ f
-        → on_found f Broken (λ y j. Bond x y (i + j)) ≡ Bond a b k → Line text a b k
-    second x i p Missing q e = broken_not e
-    second x i p (Value y j) q e =
+    second : (x i : ℕ) → field_at bond_word dash text ≡ found x i → (f : Option Found) → field_at [] newline (drop i text) ≡ f
+        → on_found f None (λ y j. bond x y (i + j)) ≡ bond a b k → Line text a b k
+    second x i p None q e = none_bond e
+    second x i p (Some number) q e =
+        let y = number.value in
+        let j = number.next in
         let u = field_sound bond_word dash text p in
         let w = field_sound [] newline (drop i text) q in
         let l : Line text x y (i + j) = record {
@@ -45,18 +54,16 @@ bond_sound text {a} {b} {k} e = first (field_at bond_word dash text) refl e
               ∙ sym (append_assoc (field bond_word dash x) (field [] newline y) (drop (i + j) text));
           fits = omega (arith, rw (length-drop i text) at w.fits);
         } in
-        let n : x ≡ a = cc in
-        let m : y ≡ b = cc in
-        let h : i + j ≡ k = cc in
-        rw (← n, ← m, ← h) l
+        let same = bond_same e in
+        rw (← same.0, ← same.1, ← same.2) l
 
-    first : (f : Found) → field_at bond_word dash text ≡ f
-        → on_found f Broken (λ x i. on_found (field_at [] newline (drop i text)) Broken (λ y j. Bond x y (i + j))) ≡ Bond a b k → Line text a b k
-    first Missing p e = broken_not e
-    first (Value x i) p e = second x i p (field_at [] newline (drop i text)) refl e
+    first : (f : Option Found) → field_at bond_word dash text ≡ f
+        → on_found f None (λ x i. on_found (field_at [] newline (drop i text)) None (λ y j. bond x y (i + j))) ≡ bond a b k → Line text a b k
+    first None p e = none_bond e
+    first (Some number) p e = second number.value number.next p (field_at [] newline (drop number.next text)) refl e
 
 module _ (s : Said) (count k : ℕ) (rest done : List ℕ) where
-  pub bonds_step : {a b next : ℕ} → k < count → bond_at rest ≡ Bond a b next
+  pub bonds_step : {a b next : ℕ} → k < count → bond_at rest ≡ bond a b next
       → bonds_from s (k + 3) (count - k) rest done ≡ bonds_from s (k + 1 + 3) (count - (k + 1)) (drop next rest) (done ++ a ∷ b ∷ [])
   unfolding bonds_from
   bonds_step h e =
@@ -64,7 +71,7 @@ module _ (s : Said) (count k : ℕ) (rest done : List ℕ) where
       let l : k + 3 + 1 ≡ k + 1 + 3 = omega arith in
       rw (m, e, l)
 
-  pub bonds_broken : k < count → bond_at rest ≡ Broken → bonds_from s (k + 3) (count - k) rest done ≡ record { says = refuses 10 (k + 3); bytes = done }
+  pub bonds_broken : k < count → bond_at rest ≡ None → bonds_from s (k + 3) (count - k) rest done ≡ record { says = refuses 10 (k + 3); bytes = done }
   unfolding bonds_from
   bonds_broken h e = let m : count - k ≡ suc (count - (k + 1)) = omega arith in rw (m, e)
 
@@ -111,7 +118,7 @@ along_none text s count lent = record {
 
 module _ {text : List ℕ} {s : Said} {count : ℕ} {lent bonds rest : List ℕ} {k : ℕ}
     (w : Along text s count lent bonds rest k) (room : 2 * count ≤ length lent) where
-  pub along_more : {a b next : ℕ} → k < count → bond_at rest ≡ Bond a b next
+  pub along_more : {a b next : ℕ} → k < count → bond_at rest ≡ bond a b next
       → Along text s count lent (set (set bonds (2 * k) a) (2 * k + 1) b) (take (length rest - next) (drop next rest)) (k + 1)
   along_more {a} {b} {next} h e = record {
     within = omega arith;
@@ -134,54 +141,42 @@ module _ {text : List ℕ} {s : Said} {count : ℕ} {lent bonds rest : List ℕ}
       let e : length (take (2 * k) bonds) ≡ 2 * k = length-take-le (2 * k) bonds (omega (arith, w.long, w.within)) in
       sym (take-append-drop (2 * k) bonds) ∙ ap (λ (l : List ℕ). take (2 * k) bonds ++ l) (w.after ∙ ap (λ (n : ℕ). drop n lent) (sym e))
 
-  answers : {t : Text} → bonds_from s (k + 3) (count - k) rest (take (2 * k) bonds) ≡ record { says = said t; bytes = take (2 * k) bonds }
+  answers : {t : Result Text Departure} → bonds_from s (k + 3) (count - k) rest (take (2 * k) bonds) ≡ record { says = said t; bytes = take (2 * k) bonds }
       → Answers (bonds_from s 3 count text []) t lent bonds
   answers e = rw (w.reading ∙ e) (record { says = refl; holds = stored })
 
   -- the three ways out
-  pub answers_broken : k < count → bond_at rest ≡ Broken → Answers (bonds_from s 3 count text []) (Departs (k + 3)) lent bonds
+  pub answers_broken : k < count → bond_at rest ≡ None → Answers (bonds_from s 3 count text []) (Err (record { line = k + 3 })) lent bonds
   answers_broken h e = answers (bonds_broken s count k rest (take (2 * k) bonds) h e)
 
-  pub answers_more : count ≤ k → (length rest ≡ 0 → ⊥) → Answers (bonds_from s 3 count text []) (Departs (count + 3)) lent bonds
+  pub answers_more : count ≤ k → (length rest ≡ 0 → ⊥) → Answers (bonds_from s 3 count text []) (Err (record { line = count + 3 })) lent bonds
   answers_more h n =
       let e : count - k ≡ 0 = omega arith in
       let l : k ≡ count = omega (arith, w.within) in
-      subst (λ (m : ℕ). Answers (bonds_from s 3 count text []) (Departs (m + 3)) lent bonds) l
+      subst (λ (m : ℕ). Answers (bonds_from s 3 count text []) (Err (record { line = m + 3 })) lent bonds) l
       (answers (rw e (bonds_more s (k + 3) rest (take (2 * k) bonds) n)))
 
 pub answers_read : {text : List ℕ} {n count : ℕ} {lent bonds rest : List ℕ} {k : ℕ} → Along text (passes n count) count lent bonds rest k
-    → 2 * count ≤ length lent → count ≤ k → length rest ≡ 0 → Answers (bonds_from (passes n count) 3 count text []) (Read n count) lent bonds
+    → 2 * count ≤ length lent → count ≤ k → length rest ≡ 0 → Answers (bonds_from (passes n count) 3 count text []) (Ok (record { atoms = n; bonds = count })) lent bonds
 answers_read {text} {n} {count} {lent} {bonds} {rest} {k} w room h z =
     let e : count - k ≡ 0 = omega arith in
     answers w room (rw e (bonds_end (passes n count) (k + 3) rest (take (2 * k) bonds) z))
 
--- the remainder of a text, as the part that the code takes
-abbrev part : List ℕ → ℕ → List ℕ
-part text i = take (length text - i) (drop i text)
+passes_same : (a b : Text) → passes a.atoms a.bonds ≡ passes b.atoms b.bonds → a ≡ b
+passes_same a b e =
+    let n : a.atoms ≡ b.atoms = cc in
+    let m : a.bonds ≡ b.bonds = cc in
+    ap₂ (λ (x y : ℕ). record { atoms = x; bonds = y }) n m
 
-module _ (text : List ℕ) where
-  pub reads_no_atoms : (lent : List ℕ) → field_at atoms_word newline text ≡ Missing → Answers (reads text) (Departs 1) lent lent
-  unfolding reads
-  reads_no_atoms lent e = rw e (record { says = refl; holds = refl })
+refuses_same : (a b : Departure) → refuses 10 a.line ≡ refuses 10 b.line → a ≡ b
+refuses_same a b e = let l : a.line ≡ b.line = cc in ap (λ (x : ℕ). record { line = x }) l
 
-  pub reads_no_count : (lent : List ℕ) {n i : ℕ} → field_at atoms_word newline text ≡ Value n i
-      → field_at bonds_word newline (take (length text - i) (drop i text)) ≡ Missing → Answers (reads text) (Departs 2) lent lent
-  unfolding reads
-  reads_no_count lent {n} {i} e f = rw (e, rw (remainder text i) at f) (record { says = refl; holds = refl })
-
-  -- the bond lines, read from the remainder of the remainder
-  pub reads_bonds : {n i m j x y : ℕ} {r : Text} {lent left : List ℕ} → field_at atoms_word newline text ≡ Value n i
-      → field_at bonds_word newline (take (length text - i) (drop i text)) ≡ Value m j → x ≡ n → y ≡ m
-      → Answers (bonds_from (passes x y) 3 y (part (part text i) j) []) r lent left → Answers (reads text) r lent left
-  unfolding reads
-  reads_bonds {n} {i} {m} {j} e f p q a = rw (e, rw (remainder text i) at f) (rw (p, q, remainder text i, remainder (drop i text) j) at a)
-
-said_injective : (a b : Text) → said a ≡ said b → a ≡ b
-said_injective (Read n m) (Read x y) e = cc
-said_injective (Read n m) (Departs line) e = let z : ◌≡◌ {A = ℕ} 0 1 = cc in absurd (omega arith)
-said_injective (Departs line) (Read n m) e = let z : ◌≡◌ {A = ℕ} 0 1 = cc in absurd (omega arith)
-said_injective (Departs i) (Departs j) e = cc
+said_injective : (a b : Result Text Departure) → said a ≡ said b → a ≡ b
+said_injective (Ok a) (Ok b) e = ap Ok (passes_same a b e)
+said_injective (Ok a) (Err b) e = let z : ◌≡◌ {A = ℕ} 0 1 = cc in absurd (omega arith)
+said_injective (Err a) (Ok b) e = let z : ◌≡◌ {A = ℕ} 0 1 = cc in absurd (omega arith)
+said_injective (Err a) (Err b) e = ap Err (refuses_same a b e)
 
 -- a reading and a lent buffer leave one answer and one content of the buffer
-pub answers_unique : {r : Reading} {a b : Text} {lent x y : List ℕ} → Answers r a lent x → Answers r b lent y → (a ≡ b) × (x ≡ y)
+pub answers_unique : {r : Reading} {a b : Result Text Departure} {lent x y : List ℕ} → Answers r a lent x → Answers r b lent y → (a ≡ b) × (x ≡ y)
 answers_unique {r} {a} {b} u w = (said_injective a b (u.says ∙ sym w.says), u.holds ∙ sym w.holds)

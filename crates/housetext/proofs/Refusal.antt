@@ -5,10 +5,9 @@ use mathlib.Core.Logic.{◌↔◌}
 use Prim.Native.Nat.{ℕ, zero, suc, ◌+◌}
 use native.Mathlib.Omega.{arith}
 use lib.ListN.{drop}
+use Rattle.std.specs.Prelude.{Option, Some, None}
 use Rattle.housetext.specs.declared.Found.{Found}
-use Rattle.housetext.specs.declared.Found.TheVariants.{Value, Missing}
 use Rattle.housetext.specs.declared.BondLine.{BondLine}
-use Rattle.housetext.specs.declared.BondLine.TheVariants.{Bond, Broken}
 use Rattle.housetext.specs.Text.{newline, atoms_word, bonds_word, field_at, bond_at, on_found, on_bond, Said, passes, refuses, Reading, bonds_from, reads}
 use Rattle.housetext.proofs.RoundTrip.{Says, reads_text_of, text_of_reads}
 
@@ -24,26 +23,26 @@ bonds_either n m line zero (x ∷ text) done = refusing
 bonds_either n m line (suc left) text done =
     next (bond_at text) (λ a b i. bonds_either n m (line + 1) left (drop i text) (done ++ a ∷ b ∷ []))
   where
-    next : (found : BondLine) → ((a b i : ℕ) → Either (bonds_from (passes n m) (line + 1) left (drop i text) (done ++ a ∷ b ∷ [])).says)
-        → Either (on_bond found (record { says = refuses 10 line; bytes = done }) (λ a b i. bonds_from (passes n m) (line + 1) left (drop i text) (done ++ a ∷ b ∷ []))).says
-    next Broken more = refusing
-    next (Bond a b i) more = more a b i
+    next : (l : Option BondLine) → ((a b i : ℕ) → Either (bonds_from (passes n m) (line + 1) left (drop i text) (done ++ a ∷ b ∷ [])).says)
+        → Either (on_bond l (record { says = refuses 10 line; bytes = done }) (λ a b i. bonds_from (passes n m) (line + 1) left (drop i text) (done ++ a ∷ b ∷ []))).says
+    next None more = refusing
+    next (Some line) more = more line.a line.b line.next
 
 reads_either : (text : List ℕ) → Either (reads text).says
 unfolding reads
 reads_either text = first (field_at atoms_word newline text)
   where
-    second : (n i : ℕ) (found : Found)
-        → Either (on_found found (record { says = refuses 10 2; bytes = [] }) (λ m j. bonds_from (passes n m) 3 m (drop j (drop i text)) [])).says
-    second n i Missing = refusing
-    second n i (Value m j) = bonds_either n m 3 m (drop j (drop i text)) []
+    second : (n i : ℕ) (l : Option Found)
+        → Either (on_found l (record { says = refuses 10 2; bytes = [] }) (λ m j. bonds_from (passes n m) 3 m (drop j (drop i text)) [])).says
+    second n i None = refusing
+    second n i (Some number) = bonds_either n number.value 3 number.value (drop number.next (drop i text)) []
 
-    first : (found : Found)
-        → Either (on_found found (record { says = refuses 10 1; bytes = [] })
+    first : (l : Option Found)
+        → Either (on_found l (record { says = refuses 10 1; bytes = [] })
         (λ n i. on_found (field_at bonds_word newline (drop i text)) (record { says = refuses 10 2; bytes = [] })
         (λ m j. bonds_from (passes n m) 3 m (drop j (drop i text)) []))).says
-    first Missing = refusing
-    first (Value n i) = second n i (field_at bonds_word newline (drop i text))
+    first None = refusing
+    first (Some number) = second number.value number.next (field_at bonds_word newline (drop number.next text))
 
 -- a text is not both taken and refused
 pub passes_refuses : {n m number line : ℕ} → passes n m ≡ refuses number line → ⊥

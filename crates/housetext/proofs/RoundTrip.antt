@@ -5,23 +5,22 @@ use Prim.Native.Nat.{ℕ, zero, suc, ◌+◌, ◌*◌, ◌/◌, ◌≤◌}
 use native.Mathlib.Omega.{arith}
 use lib.ListN.{length, drop, length-append}
 use lib.Seq.{drop-append_seam}
+use Rattle.std.specs.Prelude.{Option, Some, None}
 use Rattle.housetext.specs.declared.Found.{Found}
-use Rattle.housetext.specs.declared.Found.TheVariants.{Value, Missing}
 use Rattle.housetext.specs.declared.BondLine.{BondLine}
-use Rattle.housetext.specs.declared.BondLine.TheVariants.{Bond, Broken}
-use Rattle.housetext.specs.Text.{newline, dash, atoms_word, bonds_word, bond_word, field, bond_line, bond_lines, text_of, field_at, bond_at}
+use Rattle.housetext.specs.Text.{newline, dash, atoms_word, bonds_word, bond_word, field, bond_line, bond_lines, text_of, found, field_at, bond, bond_at}
 use Rattle.housetext.specs.Text.{on_found, on_bond, Said, passes, refuses, Reading, bonds_from, reads, Bytes}
 use Rattle.housetext.proofs.Fields.{field_sound, field_complete}
 use Rattle.housetext.proofs.Reading.{bond_sound}
 
-pub bond_complete : (a b : ℕ) (rest : List ℕ) → a ≤ 255 → b ≤ 255 → bond_at (bond_line a b ++ rest) ≡ Bond a b (length (bond_line a b))
+pub bond_complete : (a b : ℕ) (rest : List ℕ) → a ≤ 255 → b ≤ 255 → bond_at (bond_line a b ++ rest) ≡ bond a b (length (bond_line a b))
 unfolding bond_at bond_line
 bond_complete a b rest p q =
     let x : List ℕ = field bond_word dash a in
     let y : List ℕ = field [] newline b in
     rw (append_assoc x y rest, field_complete bond_word dash a (y ++ rest) (omega arith) p, drop-append_seam x (y ++ rest))
     (rw (field_complete [] newline b rest (omega arith) q)
-    (ap (Bond a b) (sym (length-append x y))))
+    (ap (bond a b) (sym (length-append x y))))
 
 -- the lines of so many bonds are read
 bonds_complete : (s : Said) (m line : ℕ) (bytes done : List ℕ) → length bytes ≡ 2 * m → Bytes bytes
@@ -81,15 +80,17 @@ module _ (s : Said) (n c : ℕ) (out : List ℕ) where
       more a b xs p q h (suc zero) = q
       more a b xs p q h (suc (suc i)) = h i
 
-      go : (l : BondLine) → bond_at text ≡ l
+      go : (l : Option BondLine) → bond_at text ≡ l
           → on_bond l (record { says = refuses 10 line; bytes = done }) (λ a b k. bonds_from s (line + 1) m (drop k text) (done ++ a ∷ b ∷ []))
           ≡ record { says = passes n c; bytes = out }
           → ((a b k : ℕ) → bonds_from s (line + 1) m (drop k text) (done ++ a ∷ b ∷ []) ≡ record { says = passes n c; bytes = out }
           → (s ≡ passes n c) × Lines (drop k text) (done ++ a ∷ b ∷ []) out m)
           → (s ≡ passes n c) × Lines text done out (suc m)
-      go Broken p e less = refuses_not_passes (ap (λ (r : Reading). r.says) e)
-      go (Bond a b k) p e less =
-          let w = less a b k e in
+      go None p e less = refuses_not_passes (ap (λ (r : Reading). r.says) e)
+      go (Some line) p e less =
+          let a = line.a in
+          let b = line.b in
+          let w = less a b line.next e in
           let l = bond_sound text p in (
             w.0,
             record {
@@ -127,12 +128,14 @@ text_of_reads text n m bytes e = first (field_at atoms_word newline text) refl e
           small = rw c h;
         }
 
-    second : (x i : ℕ) → field_at atoms_word newline text ≡ Value x i → (f : Found) → field_at bonds_word newline (drop i text) ≡ f
+    second : (x i : ℕ) → field_at atoms_word newline text ≡ found x i → (f : Option Found) → field_at bonds_word newline (drop i text) ≡ f
         → on_found f (record { says = refuses 10 2; bytes = [] }) (λ y j. bonds_from (passes x y) 3 y (drop j (drop i text)) [])
         ≡ record { says = passes n m; bytes = bytes }
         → Says text n m bytes
-    second x i p Missing q e = refuses_not_passes (ap (λ (r : Reading). r.says) e)
-    second x i p (Value y j) q e =
+    second x i p None q e = refuses_not_passes (ap (λ (r : Reading). r.says) e)
+    second x i p (Some number) q e =
+        let y = number.value in
+        let j = number.next in
         let w = bonds_sound (passes x y) n m bytes y 3 (drop j (drop i text)) [] e in
         let u = field_sound atoms_word newline text p in
         let v = field_sound bonds_word newline (drop i text) q in
@@ -141,10 +144,10 @@ text_of_reads text n m bytes e = first (field_at atoms_word newline text) refl e
         says x y w.1.bytes a b w.1.all w.1.count u.small v.small w.1.small
         (u.there ∙ ap (λ (l : List ℕ). field atoms_word newline x ++ l) (v.there ∙ ap (λ (l : List ℕ). field bonds_word newline y ++ l) w.1.there))
 
-    first : (f : Found) → field_at atoms_word newline text ≡ f
+    first : (f : Option Found) → field_at atoms_word newline text ≡ f
         → on_found f (record { says = refuses 10 1; bytes = [] })
         (λ x i. on_found (field_at bonds_word newline (drop i text)) (record { says = refuses 10 2; bytes = [] })
         (λ y j. bonds_from (passes x y) 3 y (drop j (drop i text)) []))
         ≡ record { says = passes n m; bytes = bytes } → Says text n m bytes
-    first Missing p e = refuses_not_passes (ap (λ (r : Reading). r.says) e)
-    first (Value x i) p e = second x i p (field_at bonds_word newline (drop i text)) refl e
+    first None p e = refuses_not_passes (ap (λ (r : Reading). r.says) e)
+    first (Some number) p e = second number.value number.next p (field_at bonds_word newline (drop number.next text)) refl e

@@ -1,19 +1,19 @@
 -- Laws of a text that starts with a word.
 use mathlib.Core.Path.{◌≡◌, refl, sym, ap}
-use mathlib.Core.Bool.{true, false, cond}
+use mathlib.Core.Bool.{true, false, cond, ◌&&◌}
 use mathlib.Core.List.{List, [], ◌∷◌, ◌++◌}
 use mathlib.Core.Logic.{◌⊎◌, inl, inr}
-use Prim.Native.Nat.{ℕ, ◌+◌, ◌-◌, ◌<◌, ◌≤◌}
-use native.Mathlib.Numerals.{add-one}
+use Prim.Native.Nat.{ℕ, ◌-◌, ◌<◌, ◌≤◌}
 use native.Mathlib.Omega.{arith}
 use lib.Dec.{eqb}
-use lib.ListN.{length, get_or, drop, take, length-append, length-drop, drop_of_length-le}
-use lib.Seq.{drop-cons, take_all}
+use lib.ListN.{length, drop, take, length-append, length-drop}
+use lib.Seq.{take_all}
 use borrow.Author.Tests.{eq-eqb, ne_eqb}
+use Rattle.std.specs.Cmp.Lexicographic.{pointwise}
 use Rattle.housetext.specs.Text.{starts}
 use Rattle.housetext.proofs.Decimal.{lt_or_ge}
 
-same_or_not : (x y : ℕ) → (x ≡ y) ⊎ (x ≡ y → ⊥)
+pub same_or_not : (x y : ℕ) → (x ≡ y) ⊎ (x ≡ y → ⊥)
 same_or_not x y = go (lt_or_ge x y) (lt_or_ge y x)
   where
     go : (x < y) ⊎ (y ≤ x) → (y < x) ⊎ (x ≤ y) → (x ≡ y) ⊎ (x ≡ y → ⊥)
@@ -24,27 +24,17 @@ same_or_not x y = go (lt_or_ge x y) (lt_or_ge y x)
 pub false_not_true : {A : Type 0} → false ≡ true → A
 false_not_true h = let z : ◌≡◌ {A = ℕ} 0 1 = cc in absurd (omega arith)
 
--- a place at which the two agree
-pub starts_past : (word text : List ℕ) (i : ℕ) → i < length word → i < length text → get_or word i 0 ≡ get_or text i 0
-    → starts (drop i word) (drop i text) ≡ starts (drop (i + 1) word) (drop (i + 1) text)
+-- a text starts with a word if its first bytes are the word's
+pub starts_pointwise : (word text : List ℕ) → starts word text ≡ pointwise eqb (take (length word) text) word
 unfolding starts
-starts_past word text i p q e = rw (add-one i, drop-cons word i 0 p, drop-cons text i 0 q, eq-eqb (get_or word i 0) (get_or text i 0) e)
-
--- a place at which the two differ
-pub starts_not : (word text : List ℕ) (i : ℕ) → i < length word → i < length text → (get_or word i 0 ≡ get_or text i 0 → ⊥)
-    → starts (drop i word) (drop i text) ≡ false
-unfolding starts
-starts_not word text i p q e = rw (drop-cons word i 0 p, drop-cons text i 0 q, ne_eqb (get_or word i 0) (get_or text i 0) e)
-
--- a place past the end of the text
-pub starts_short : (word text : List ℕ) (i : ℕ) → i < length word → length text ≤ i → starts (drop i word) (drop i text) ≡ false
-unfolding starts
-starts_short word text i p q = rw (drop-cons word i 0 p, drop_of_length-le text q)
-
--- the end of the word
-pub starts_all : (word text : List ℕ) (i : ℕ) → length word ≤ i → starts (drop i word) (drop i text) ≡ true
-unfolding starts
-starts_all word text i p = rw (drop_of_length-le word p)
+starts_pointwise [] text = refl
+starts_pointwise (x ∷ word) [] = refl
+starts_pointwise (x ∷ word) (y ∷ text) = go (starts_pointwise word text) (same_or_not x y)
+  where
+    go : starts word text ≡ pointwise eqb (take (length word) text) word → (x ≡ y) ⊎ (x ≡ y → ⊥)
+        → cond (eqb x y) (starts word text) false ≡ (eqb y x && pointwise eqb (take (length word) text) word)
+    go more (inl e) = rw (eq-eqb x y e, eq-eqb y x (sym e)) more
+    go more (inr n) = rw (ne_eqb x y n, ne_eqb y x (λ e. n (sym e)))
 
 -- a text starts with what it is put together from
 pub starts_append : (start rest : List ℕ) → starts start (start ++ rest) ≡ true

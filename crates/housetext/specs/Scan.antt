@@ -1,21 +1,24 @@
 -- What the number reader finds digit by digit. The definition of a text does not use it.
-use Rattle.std.specs.Prelude.{cond, List, ℕ, ◌+◌, ◌-◌, ◌*◌, ltb, eqb, get_or}
+use Rattle.std.specs.Prelude.{cond, List, ℕ, zero, suc, ◌+◌, ◌-◌, ◌*◌, ltb, get_or, Option, Some, None}
 use Rattle.housetext.specs.declared.Found.{Found}
-use Rattle.housetext.specs.declared.Found.TheVariants.{Value, Missing}
+use Rattle.housetext.specs.Text.{found}
 
--- the digit that a byte is, or 10
-unfoldable pub digit : ℕ → ℕ
-digit b = cond (ltb b 48) 10 (cond (ltb 57 b) 10 (b - 48))
+-- the digit that a byte is, if it is one
+unfoldable pub digit : ℕ → Option ℕ
+digit b = cond (ltb b 48) None (cond (ltb 57 b) None (Some (b - 48)))
 
--- the digit at a place of a text, or 10
-unfoldable pub digit_at : List ℕ → ℕ → ℕ
+-- the digit at a place of a text, if there is one
+unfoldable pub digit_at : List ℕ → ℕ → Option ℕ
 digit_at text i = digit (get_or text i 0)
 
--- the number that three places make, of which those from the first 10 on are no digits, and how many of them it takes
-unfoldable pub scanned : ℕ → ℕ → ℕ → Found
-scanned a b c =
-    cond (ltb 9 a) Missing
-    (cond (eqb a 0) (Value 0 1)
-    (cond (ltb 9 b) (Value a 1)
-    (cond (ltb 9 c) (Value (10 * a + b) 2)
-    (cond (ltb 255 (100 * a + 10 * b + c)) Missing (Value (100 * a + 10 * b + c) 3)))))
+-- the number that three places make, up to the first that has no digit, and how many of them it takes: of a leading zero, that zero alone
+unfoldable pub scanned : Option ℕ → Option ℕ → Option ℕ → Option Found
+scanned None b c = None
+scanned (Some zero) b c = found 0 1
+scanned (Some (suc a)) None c = found (suc a) 1
+scanned (Some (suc a)) (Some b) None = found (10 * suc a + b) 2
+scanned (Some (suc a)) (Some b) (Some c) = cond (ltb 255 (100 * suc a + 10 * b + c)) None (found (100 * suc a + 10 * b + c) 3)
+
+-- the number that the first three places of a text make
+unfoldable pub scan : List ℕ → Option Found
+scan text = scanned (digit_at text 0) (digit_at text 1) (digit_at text 2)

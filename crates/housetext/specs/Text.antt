@@ -1,12 +1,11 @@
 -- House text: the text of a compound, and what any text says or which of its lines departs first.
 use Rattle.std.specs.Prelude.{◌≡◌, Bool, true, false, cond, List, [], ◌∷◌, ◌++◌, ℕ, zero, suc, ◌+◌, ◌/◌, ◌≤◌, eqb, length, get_or, drop}
+use Rattle.std.specs.Prelude.{Option, Some, None, Result, Ok, Err}
 use Rattle.housetext.specs.Decimal.{decimal}
 use Rattle.housetext.specs.declared.Text.{Text}
-use Rattle.housetext.specs.declared.Text.TheVariants.{Read, Departs}
+use Rattle.housetext.specs.declared.Departure.{Departure}
 use Rattle.housetext.specs.declared.Found.{Found}
-use Rattle.housetext.specs.declared.Found.TheVariants.{Value, Missing}
 use Rattle.housetext.specs.declared.BondLine.{BondLine}
-use Rattle.housetext.specs.declared.BondLine.TheVariants.{Bond, Broken}
 
 -- the byte that ends a line
 abbrev pub newline : ℕ
@@ -52,25 +51,33 @@ starts [] text = true
 starts (x ∷ xs) [] = false
 starts (x ∷ xs) (y ∷ ys) = cond (eqb x y) (starts xs ys) false
 
+-- a number, and how many bytes it takes
+abbrev pub found : ℕ → ℕ → Option Found
+found n k = Some (record { value = n; next = k })
+
 -- the number below k whose field the text starts with, and the field's length
-unfoldable pub field_below : ℕ → List ℕ → ℕ → List ℕ → Found
-field_below zero word end text = Missing
-field_below (suc n) word end text = cond (starts (field word end n) text) (Value n (length (field word end n))) (field_below n word end text)
+unfoldable pub field_below : ℕ → List ℕ → ℕ → List ℕ → Option Found
+field_below zero word end text = None
+field_below (suc n) word end text = cond (starts (field word end n) text) (found n (length (field word end n))) (field_below n word end text)
 
 -- the number from 0 to 255 whose field the text starts with
-unfoldable pub field_at : List ℕ → ℕ → List ℕ → Found
+unfoldable pub field_at : List ℕ → ℕ → List ℕ → Option Found
 field_at word end text = field_below 256 word end text
 
 -- what follows if there is a number, and if there is none
-abbrev pub on_found : {A : Type 0} → Found → A → (ℕ → ℕ → A) → A
-on_found Missing none some = none
-on_found (Value n next) none some = some n next
+abbrev pub on_found : {A : Type 0} → Option Found → A → (ℕ → ℕ → A) → A
+on_found None none some = none
+on_found (Some number) none some = some number.value number.next
+
+-- the two atoms of a bond line, and how many bytes it takes
+abbrev pub bond : ℕ → ℕ → ℕ → Option BondLine
+bond a b k = Some (record { a = a; b = b; next = k })
 
 -- the bond line that the text starts with
-unfoldable pub bond_at : List ℕ → BondLine
+unfoldable pub bond_at : List ℕ → Option BondLine
 bond_at text =
-    on_found (field_at bond_word dash text) Broken
-    (λ a i. on_found (field_at [] newline (drop i text)) Broken (λ b j. Bond a b (i + j)))
+    on_found (field_at bond_word dash text) None
+    (λ a i. on_found (field_at [] newline (drop i text)) None (λ b j. bond a b (i + j)))
 
 -- what the scope document calls an answer: the numbers of atoms and bonds, or a refusal's number and its "at"
 pub data Said : Type 0 where
@@ -78,9 +85,9 @@ pub data Said : Type 0 where
   refuses : (number at : ℕ) → Said
 
 -- each answer of `read` in those words
-abbrev pub said : Text → Said
-said (Read atoms bonds) = passes atoms bonds
-said (Departs line) = refuses 10 line
+abbrev pub said : Result Text Departure → Said
+said (Ok text) = passes text.atoms text.bonds
+said (Err departure) = refuses 10 departure.line
 
 -- what is said, and the bond bytes read before
 pub record Reading : Type 0 where
@@ -93,9 +100,9 @@ at_end s line done [] = record { says = s; bytes = done }
 at_end s line done (x ∷ xs) = record { says = refuses 10 line; bytes = done }
 
 -- what follows if there is a bond line, and if there is none
-abbrev pub on_bond : {A : Type 0} → BondLine → A → (ℕ → ℕ → ℕ → A) → A
-on_bond Broken none some = none
-on_bond (Bond a b next) none some = some a b next
+abbrev pub on_bond : {A : Type 0} → Option BondLine → A → (ℕ → ℕ → ℕ → A) → A
+on_bond None none some = none
+on_bond (Some line) none some = some line.a line.b line.next
 
 -- so many bond lines and then the end, where s is to be said; the first is line number `line`, and the bytes `done` were read before
 unfoldable pub bonds_from : Said → ℕ → ℕ → List ℕ → List ℕ → Reading
@@ -116,7 +123,7 @@ reads text =
     (λ m j. bonds_from (passes n m) 3 m (drop j (drop i text)) []))
 
 -- what an answer and a buffer must be after a reading: the bytes read stand at the buffer's start, and the rest is as lent
-pub record Answers (reading : Reading) (answer : Text) (lent left : List ℕ) : Type 0 where
+pub record Answers (reading : Reading) (answer : Result Text Departure) (lent left : List ℕ) : Type 0 where
   pub says : said answer ≡ reading.says
   pub holds : left ≡ reading.bytes ++ drop (length reading.bytes) lent
 

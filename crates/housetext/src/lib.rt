@@ -5,206 +5,160 @@
 
 #![tactic(auto)]
 
-ghost use Rattle.std.specs.Prelude.{◌≡◌, ◌<◌, ◌≤◌, length, []};
-ghost use Rattle.housetext.specs.Scan.{digit_at, scanned};
-ghost use Rattle.housetext.specs.Text.{starts, field_at, bond_at, passes, bonds_from, reads, Answers};
+ghost use Rattle.std.specs.Prelude.{◌≡◌, ◌<◌, ◌≤◌, length, [], IfSome};
+ghost use Rattle.housetext.specs.Scan.{digit_at, scan};
+ghost use Rattle.housetext.specs.Text.{field_at, bond_at, passes, bonds_from, reads, Answers};
 
-/// What a text says.
-#[derive(Clone, Copy)]
-pub enum Text {
-    /// The numbers of atoms and bonds; the bond bytes stand in the lent buffer.
-    Read { atoms: usize, bonds: usize },
-    /// The first line that departs, counted from 1: refusal 10.
-    Departs { line: usize },
+/// What a text says: the numbers of atoms and bonds. The bond bytes stand in the lent buffer.
+#[derive(Clone, Copy, Debug, PartialEq, Eq)]
+pub struct Text {
+    /// The number of atoms.
+    pub atoms: usize,
+    /// The number of bonds.
+    pub bonds: usize,
 }
 
-// A number at the start of a text.
-#[derive(Clone, Copy)]
-enum Found {
-    // The number, and how many bytes were read.
-    Value { value: u8, next: usize },
-    // There is none.
-    Missing,
+/// A text departs from the form: refusal 10.
+#[derive(Clone, Copy, Debug, PartialEq, Eq)]
+pub struct Departure {
+    /// The first line that departs, counted from 1.
+    pub line: usize,
 }
 
-// A bond line at the start of a text.
+// A number at the start of a text, and how many bytes were read.
 #[derive(Clone, Copy)]
-enum BondLine {
-    // The two atoms, and how many bytes were read.
-    Bond { a: u8, b: u8, next: usize },
-    // There is none.
-    Broken,
+struct Found {
+    value: u8,
+    next: usize,
 }
 
-// The digit at a place of a text, or 10 if there is none.
-fn digit(text: &[u8], at: usize) -> u8
-    ensures { result ≡ digit_at text.now at }
+// The two atoms of a bond line at the start of a text, and how many bytes were read.
+#[derive(Clone, Copy)]
+struct BondLine {
+    a: u8,
+    b: u8,
+    next: usize,
+}
+
+// The digit at a place of a text, if there is one.
+#[tactic(auto, unfolding(crate::specs::Scan::digit, crate::specs::Scan::digit_at))]
+fn digit(text: &[u8], at: usize) -> Option<u8>
+    ensures value { result ≡ digit_at text.now at }
+    ensures small { IfSome result (λ d. d ≤ 9) }
 {
-    if text.len() <= at {
-        return 10;
+    match *text.get(at)? {
+        b @ b'0'..=b'9' => Some(b - b'0'),
+        _ => None,
     }
-    let b = text[at];
-    if b < 48 {
-        return 10;
-    }
-    if 57 < b {
-        return 10;
-    }
-    b - 48
-}
-
-// A byte as a count.
-fn wide(x: u8) -> usize
-    ensures { result ≡ x }
-{
-    x as usize
 }
 
 // The longest number that the first digits of a text make, up to three.
-fn number(text: &[u8]) -> Found
-    ensures { result ≡ scanned (digit_at text.now 0) (digit_at text.now 1) (digit_at text.now 2) }
+#[tactic(auto, using(crate::proofs::Scan::scanned_cases), unfolding(crate::specs::Scan::scan))]
+fn number(text: &[u8]) -> Option<Found>
+    ensures { result ≡ scan text.now }
 {
-    let a = digit(text, 0);
-    if 9 < a {
-        return Found::Missing;
-    }
+    let a = digit(text, 0)?;
     if a == 0 {
-        return Found::Value { value: 0, next: 1 };
+        return Some(Found { value: 0, next: 1 });
     }
-    let b = digit(text, 1);
-    if 9 < b {
-        return Found::Value { value: a, next: 1 };
-    }
-    let c = digit(text, 2);
-    if 9 < c {
-        return Found::Value {
-            value: 10 * a + b,
-            next: 2,
-        };
-    }
-    let v = 100 * wide(a) + 10 * wide(b) + wide(c);
-    if 255 < v {
-        return Found::Missing;
-    }
-    Found::Value {
-        value: v as u8,
-        next: 3,
-    }
-}
-
-// Whether a text starts with a word.
-fn starts_with(word: &[u8], text: &[u8]) -> bool
-    ensures { result ≡ starts word.now text.now }
-{
-    for i in 0..word.len() {
-        if text.len() <= i {
-            return false;
-        }
-        if word[i] != text[i] {
-            return false;
-        }
-    }
-    true
+    let Some(b) = digit(text, 1) else {
+        return Some(Found { value: a, next: 1 });
+    };
+    let Some(c) = digit(text, 2) else {
+        let value = 10 * a + b;
+        return Some(Found { value, next: 2 });
+    };
+    let value = u8::try_from(100 * u16::from(a) + 10 * u16::from(b) + u16::from(c)).ok()?;
+    Some(Found { value, next: 3 })
 }
 
 // A number at the start of a text, ended by `end`.
-fn ended(text: &[u8], end: u8) -> Found
+#[tactic(auto, using(crate::proofs::Fields::ended_scan))]
+fn ended(text: &[u8], end: u8) -> Option<Found>
     requires { end < 48 }
-    ensures { result ≡ field_at [] end text.now }
+    ensures value { result ≡ field_at [] end text.now }
+    ensures within { IfSome result (λ number. number.next ≤ length text.now) }
 {
-    let Found::Value { value, next } = number(text) else {
-        return Found::Missing;
-    };
-    if next < text.len() {
-        if text[next] == end {
-            return Found::Value {
-                value,
-                next: next + 1,
-            };
-        }
+    let Found { value, next } = number(text)?;
+    if text.get(next) != Some(&end) {
+        return None;
     }
-    Found::Missing
+    Some(Found {
+        value,
+        next: next + 1,
+    })
 }
 
 // A word and a number at the start of a text, ended by `end`.
-fn field(text: &[u8], word: &[u8], end: u8) -> Found
+#[tactic(auto, using(crate::proofs::Fields::field_stripped))]
+fn field(text: &[u8], word: &[u8], end: u8) -> Option<Found>
     requires { end < 48 }
-    ensures { result ≡ field_at word.now end text.now }
+    ensures value { result ≡ field_at word.now end text.now }
+    ensures within { IfSome result (λ number. number.next ≤ length text.now) }
 {
-    if !starts_with(word, text) {
-        return Found::Missing;
-    }
-    let from = word.len();
-    let Found::Value { value, next } = ended(&text[from..], end) else {
-        return Found::Missing;
-    };
-    Found::Value {
+    let rest = text.strip_prefix(word)?;
+    let Found { value, next } = ended(rest, end)?;
+    Some(Found {
         value,
-        next: from + next,
-    }
+        next: word.len() + next,
+    })
 }
 
 // The line `bond=A-B` at the start of a text.
-fn bond_line(text: &[u8]) -> BondLine
-    ensures { result ≡ bond_at text.now }
+#[tactic(auto, unfolding(crate::specs::Text::bond_at))]
+fn bond_line(text: &[u8]) -> Option<BondLine>
+    ensures value { result ≡ bond_at text.now }
+    ensures within { IfSome result (λ line. line.next ≤ length text.now) }
 {
-    let Found::Value { value: a, next } = field(text, b"bond=", b'-') else {
-        return BondLine::Broken;
-    };
-    let Found::Value {
-        value: b,
-        next: more,
-    } = ended(&text[next..], b'\n')
-    else {
-        return BondLine::Broken;
-    };
-    BondLine::Bond {
-        a,
-        b,
-        next: next + more,
-    }
+    let a = field(text, b"bond=", b'-')?;
+    let b = ended(&text[a.next..], b'\n')?;
+    Some(BondLine {
+        a: a.value,
+        b: b.value,
+        next: a.next + b.next,
+    })
 }
 
-// So many bond lines, from line 3 on, and then the end of the text.
-fn read_bonds(text: &[u8], atoms: usize, count: usize, bonds: &mut [u8]) -> Text
-    requires count_bound { count ≤ 255 }
+// As many bond lines as is said, from line 3 on, and then the end of the text.
+fn read_bonds(text: &[u8], said: Text, bonds: &mut [u8]) -> Result<Text, Departure>
+    requires count_bound { said.bonds ≤ 255 }
     requires in_bounds { 510 ≤ length bonds.old }
-    ensures { Answers (bonds_from (passes atoms count) 3 count text.now []) result bonds.old bonds.new }
+    ensures { Answers (bonds_from (passes said.atoms said.bonds) 3 said.bonds text.now []) result bonds.old bonds.new }
 {
     let mut rest = text;
-    for k in 0..count {
-        let BondLine::Bond { a, b, next } = bond_line(rest) else {
-            return Text::Departs { line: k + 3 };
+    for k in 0..said.bonds {
+        let Some(BondLine { a, b, next }) = bond_line(rest) else {
+            return Err(Departure { line: k + 3 });
         };
         bonds[2 * k] = a;
         bonds[2 * k + 1] = b;
         rest = &rest[next..];
     }
-    if rest.len() != 0 {
-        return Text::Departs { line: count + 3 };
+    if !rest.is_empty() {
+        return Err(Departure {
+            line: said.bonds + 3,
+        });
     }
-    Text::Read {
-        atoms,
-        bonds: count,
-    }
+    Ok(said)
 }
 
-/// What a text says: the numbers of atoms and bonds, with the bonds' bytes at the start of the lent buffer, or the first line that departs.
+/// What a text says, with the bonds' bytes at the start of the lent buffer, or the first line that departs.
 /// If a line departs, the bonds read before it stand there. The buffer has room for the bonds of any text; its other bytes stay as lent.
-pub fn read(text: &[u8], bonds: &mut [u8]) -> Text
+#[tactic(auto, unfolding(crate::specs::Text::reads))]
+pub fn read(text: &[u8], bonds: &mut [u8]) -> Result<Text, Departure>
     requires { 510 ≤ length bonds.old }
     ensures { Answers (reads text.now) result bonds.old bonds.new }
 {
-    let Found::Value { value: atoms, next } = field(text, b"atoms=", b'\n') else {
-        return Text::Departs { line: 1 };
+    let Some(atoms) = field(text, b"atoms=", b'\n') else {
+        return Err(Departure { line: 1 });
     };
-    let rest = &text[next..];
-    let Found::Value {
-        value: count,
-        next: more,
-    } = field(rest, b"bonds=", b'\n')
-    else {
-        return Text::Departs { line: 2 };
+    let rest = &text[atoms.next..];
+    let Some(count) = field(rest, b"bonds=", b'\n') else {
+        return Err(Departure { line: 2 });
     };
-    read_bonds(&rest[more..], wide(atoms), wide(count), bonds)
+    let said = Text {
+        atoms: usize::from(atoms.value),
+        bonds: usize::from(count.value),
+    };
+    read_bonds(&rest[count.next..], said, bonds)
 }

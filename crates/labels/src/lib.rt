@@ -14,14 +14,14 @@ ghost use Rattle.bondset.specs.Sets.{value};
 ghost use Rattle.model.specs.State.{labels_in, relabel as relabelled, joined};
 ghost use Rattle.labels.specs.Labelled.{Labelled, Alike};
 
-use bondset::BondSet;
+use bondset::{BondSet, WordSet};
 
 /// The set with `k` in it.
 fn with(a: BondSet, k: usize) -> BondSet
     requires { k < 128 }
     ensures { value result ≡ bit_or (value a) (2 ^ k) }
 {
-    let b = bondset::single(k);
+    let b = BondSet::single(k);
     BondSet {
         lo: a.lo | b.lo,
         hi: a.hi | b.hi,
@@ -33,14 +33,11 @@ fn labels_in(labels: &[u8], t: BondSet) -> BondSet
     requires { Labelled labels.now }
     ensures { value result ≡ labels_in labels.now (value t) }
 {
-    let mut rest = t;
-    let mut acc = bondset::empty();
-    while !bondset::is_empty(rest) {
-        let j = bondset::lowest(rest);
-        acc = with(acc, bondset::byte_at(labels, j) as usize);
-        rest = bondset::sum(rest, bondset::single(j));
+    let mut all = BondSet::empty();
+    for j in t {
+        all = with(all, usize::from(bondset::byte_at(labels, j)));
     }
-    acc
+    all
 }
 
 /// Marked ring `j` takes the lowest label of `w` if its own is in `w`.
@@ -48,8 +45,8 @@ fn relabel(labels: &mut [u8], w: BondSet, j: usize)
     requires { j < length labels.old }
     ensures { labels.new ≡ relabelled (value w) (count_trailing_zeros 128 (value w)) j labels.old }
 {
-    if bondset::member(w, labels[j] as usize) {
-        labels[j] = bondset::lowest(w) as u8;
+    if w.member(usize::from(labels[j])) {
+        labels[j] = w.lowest() as u8;
     }
 }
 
@@ -57,16 +54,8 @@ fn relabel(labels: &mut [u8], w: BondSet, j: usize)
 fn alike(labels: &[u8], t: BondSet) -> bool
     ensures { result ≡ true → Alike labels.now (value t) }
 {
-    let first = bondset::byte_at(labels, bondset::lowest(t));
-    let mut rest = t;
-    while !bondset::is_empty(rest) {
-        let j = bondset::lowest(rest);
-        if bondset::byte_at(labels, j) != first {
-            return false;
-        }
-        rest = bondset::sum(rest, bondset::single(j));
-    }
-    true
+    let first = bondset::byte_at(labels, t.lowest());
+    t.into_iter().all(|j| bondset::byte_at(labels, j) == first)
 }
 
 /// Joins the classes of the marked rings from, .., to - 1 that `t` names: nothing changes if they have one label, as most often.

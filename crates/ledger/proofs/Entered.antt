@@ -1,20 +1,15 @@
--- A kept prototype is entered part by part: what becomes of the ledger, and that it stays fit.
-use Rattle.std.proofs.Common.{◌≡◌, ℕ, ◌+◌, ◌*◌, ◌/◌, ◌%◌, ◌^◌, ◌<◌, ◌≤◌, true, false, eqb, List, length, set, ap, ◌∙◌, arith, length-set, le-ltb, lt-ltb}
-use lib.Count.{count_trailing_zeros, trailing_le}
+-- A kept prototype is entered part by part: what becomes of the ledger.
+use Rattle.std.proofs.Common.{◌≡◌, ℕ, ◌+◌, ◌*◌, ◌/◌, ◌%◌, ◌^◌, ◌<◌, ◌≤◌, true, false, eqb, List, set, ap, ◌∙◌, arith, le-ltb, lt-ltb}
+use lib.Count.{count_trailing_zeros}
 use Rattle.bondset.specs.Rows.{put_row}
-use Rattle.bondset.specs.declared.indexed.Index.{Index}
-use Rattle.bondset.specs.Sets.{value}
-use Rattle.bondset.specs.Reduction.{Room, Reduces, reduced, used, pushed_tag}
-use Rattle.bondset.specs.Index.{Reaches, PushesIndexed, held_by, fresh_pivot}
+use Rattle.bondset.specs.Reduction.{Reduces, reduced, used, pushed_tag}
+use Rattle.bondset.specs.Index.{Indexed, held_by, fresh_pivot}
 use Rattle.bondset.proofs.IndexPush.{rest_lacks, pivot_by_rows}
 use Rattle.cycles.specs.Family.{Family}
 use Rattle.model.specs.State.{joined}
-use Rattle.model.proofs.NumbersJoin.{joined_length}
-use Rattle.labels.proofs.Below.{labelled_set, joined_labelled}
 use Rattle.rows.specs.Rows.{put_family}
-use Rattle.ledger.specs.declared.Tally.{Tally}
-use Rattle.ledger.specs.Ledger.{Ledger, marked_in, summed_in, entered}
-use Rattle.ledger.specs.Held.{Sized, Lacks, Fit, held}
+use Rattle.ledger.specs.Ledger.{Ledger, marked_in, held, summed_in, entered}
+use Rattle.ledger.specs.Held.{Lacks}
 
 -- ---- what becomes of the ledger
 
@@ -72,77 +67,17 @@ module _ (f : Family) (rest names : ℕ) (L : Ledger) (e u : ℕ) (left : e ≡ 
   unfolding entered
   entered_none z l = rw (← left, z, le-ltb L.marks 82 l)
 
--- ---- it stays fit
+-- ---- what the rows are good for
 
-pub lowest_byte : (s j : ℕ) → j ≡ count_trailing_zeros 128 s → j < 256
-lowest_byte s j e = omega (arith, trailing_le 128 s)
+module _ {rows pivots place : List ℕ} {fresh late all m : ℕ} (x : Indexed rows pivots place fresh late all m) where
+  -- what the rows from, .., to - 1 leave lacks their pivots too
+  pub lacks_more : {tags : List ℕ} {from to s u t w : ℕ} → from ≤ to → to ≤ m → Lacks pivots from s → Reduces rows tags pivots from to s u t w
+      → Lacks pivots to t
+  lacks_more l h before so = record { lacks = rest_lacks x l h before.lacks so }
 
-pub room_fits : {rows tags pivots place : List ℕ} {x : Index} {m : ℕ} → Sized rows tags pivots place x m → (n : ℕ) → n ≤ 82 → Room rows tags pivots n
-room_fits s n h = record { rows_fit = omega arith; tags_fit = omega arith; pivots_fit = omega arith }
+  pub lacks_first : {tags : List ℕ} {to s u t w : ℕ} → to ≤ m → Reduces rows tags pivots 0 to s u t w → Lacks pivots to t
+  lacks_first h so = lacks_more (omega arith) h (record { lacks = λ i l. absurd (omega arith) }) so
 
-pub room_more : {rows tags pivots place : List ℕ} {x : Index} {m : ℕ} → Sized rows tags pivots place x m → (n : ℕ) → n < 82 → Room rows tags pivots (n + 1)
-room_more s n h = room_fits s (n + 1) (omega arith)
-
--- the places have room, and the index reaches as far as there are marked rings
-pub place_fits : {rows tags pivots place : List ℕ} {x : Index} {m : ℕ} → Sized rows tags pivots place x m → 128 ≤ length place
-place_fits s = omega (arith, s.place_long)
-
-pub reaches : {rows tags pivots place : List ℕ} {x : Index} {m : ℕ} → Sized rows tags pivots place x m → (n : ℕ) → n ≤ m
-    → Reaches rows pivots place (value x.fresh) (value x.late) (value x.all) n
-reaches {m = m} s n h = record { count = m; enough = h; indexed = s.indexed }
-
--- what the rows from, .., to - 1 leave lacks their pivots too
-pub lacks_more : {rows tags pivots place : List ℕ} {x : Index} {m : ℕ} → Sized rows tags pivots place x m
-    → {from to s u t w : ℕ} → from ≤ to → to ≤ m → Lacks pivots from s → Reduces rows tags pivots from to s u t w → Lacks pivots to t
-lacks_more z l h before so = record { lacks = rest_lacks z.indexed l h before.lacks so }
-
-pub lacks_first : {rows tags pivots place : List ℕ} {x : Index} {m : ℕ} → Sized rows tags pivots place x m
-    → {to s u t w : ℕ} → to ≤ m → Reduces rows tags pivots 0 to s u t w → Lacks pivots to t
-lacks_first z h so = lacks_more z (omega arith) h (record { lacks = λ i l. absurd (omega arith) }) so
-
--- one more row
-pub sized_more : {rows tags pivots place rows' tags' pivots' place' : List ℕ} {x x' : Index} {m rest u : ℕ} → Sized rows tags pivots place x m
-    → (rest ≡ 0 → ⊥) → Lacks pivots m rest
-    → PushesIndexed rows tags pivots place (value x.fresh) (value x.late) (value x.all) m rest u
-    rows' tags' pivots' place' (value x'.fresh) (value x'.late) (value x'.all)
-    → length rows' ≡ length rows → length tags' ≡ length tags → length pivots' ≡ length pivots → length place' ≡ length place
-    → Sized rows' tags' pivots' place' x' (m + 1)
-sized_more s some lacks p r t q l = record {
-  rows_long = r ∙ s.rows_long;
-  tags_long = t ∙ s.tags_long;
-  pivots_long = q ∙ s.pivots_long;
-  place_long = l ∙ s.place_long;
-  indexed = p.indexed s.indexed some lacks.lacks;
-}
-
-pub pivot_stored_lem : {rows tags pivots place : List ℕ} {x : Index} {m : ℕ} → Sized rows tags pivots place x m → (rest : ℕ) {ps : List ℕ}
-    → ps ≡ set pivots m (fresh_pivot (value x.all) rest) → ps ≡ set pivots m (fresh_pivot (held_by rows m) rest)
-pivot_stored_lem {pivots = pivots} {m = m} s rest e = e ∙ ap (set pivots m) (pivot_by_rows s.indexed rest)
-
-module _ (labels holds : List ℕ) (t : Tally) (fit : Fit labels holds t) (families : ℕ) (index : Index) where
-  pub mark_fit : (k : ℕ) → t.marks < 82 → k ≤ 64
-      → Fit (set labels t.marks t.marks) (set holds t.marks 1)
-      (record { marks = t.marks + 1; short = t.short; families = families; classes = t.classes; total = t.total + k; index = index })
-  mark_fit k l h =
-      record {
-        labels_long = length-set labels t.marks t.marks ∙ fit.labels_long;
-        holds_long = length-set holds t.marks 1 ∙ fit.holds_long;
-        labelled = labelled_set labels t.marks t.marks fit.labelled (omega arith);
-        marks_fit = omega arith;
-        short_fit = omega arith;
-        classes_fit = fit.classes_fit;
-        total_fit = omega arith;
-      }
-
-  pub sum_fit : (s j : ℕ) → j ≡ count_trailing_zeros 128 s → (labels' holds' : List ℕ) → labels' ≡ joined t.short t.marks s labels → holds' ≡ held holds j
-      → Fit labels' holds' (record { marks = t.marks; short = t.short; families = families; classes = t.classes; total = t.total; index = index })
-  sum_fit s j e labels' holds' l h =
-      record {
-        labels_long = ap length l ∙ joined_length t.short t.marks s labels ∙ fit.labels_long;
-        holds_long = ap length h ∙ length-set holds j _ ∙ fit.holds_long;
-        labelled = rw l (joined_labelled t.short t.marks s labels fit.labelled);
-        marks_fit = fit.marks_fit;
-        short_fit = fit.short_fit;
-        classes_fit = fit.classes_fit;
-        total_fit = fit.total_fit;
-      }
+  -- the pivot of one more row
+  pub pivot_stored_lem : (rest : ℕ) {ps : List ℕ} → ps ≡ set pivots m (fresh_pivot all rest) → ps ≡ set pivots m (fresh_pivot (held_by rows m) rest)
+  pivot_stored_lem rest e = e ∙ ap (set pivots m) (pivot_by_rows x rest)

@@ -1,5 +1,5 @@
 -- What the engine holds while it runs, and what a kept family and the end of a length do to it, rows and class rows as bytes.
-use Rattle.std.specs.Prelude.{ℕ, ◌+◌, ◌-◌, ◌*◌, ◌/◌, ◌%◌, ◌^◌, min, cond, List, length, ◌==◌, nat_lt, slice_index, slice_set}
+use Rattle.std.specs.Prelude.{ℕ, ◌+◌, ◌-◌, ◌*◌, ◌/◌, ◌%◌, ◌^◌, min, cond, List, length, ◌==◌, nat_lt, slice_index, slice_set, replicate}
 use Rattle.std.specs.Int.Count.{count_trailing_zeros}
 use Rattle.bondset.specs.Rows.{put_row}
 use Rattle.bondset.specs.Reduction.{reduced, used, pushed_tag}
@@ -30,6 +30,24 @@ pub record Ledger : Type 0 where
   pub out : List ℕ
   pub table : List ℕ
 
+-- No ring is marked: all counts and all lists are zero, and the rows are as lent.
+abbrev pub unmarked : List ℕ → List ℕ → Ledger
+unmarked out table =
+    record {
+      marks = 0;
+      short = 0;
+      families = 0;
+      classes = 0;
+      total = 0;
+      rows = replicate 164 0;
+      tags = replicate 164 0;
+      pivots = replicate 82 0;
+      labels = replicate 82 0;
+      holds = replicate 82 0;
+      out = out;
+      table = table;
+    }
+
 -- A kept prototype that is no sum of marked ones: `rest` and `names` are what its reduction left.
 unfoldable pub marked_in : Family → ℕ → ℕ → Ledger → Ledger
 marked_in f rest names L =
@@ -48,6 +66,10 @@ marked_in f rest names L =
       out = put_family L.out L.families f 1 j;
       table = L.table;
     }
+
+-- One family more names marked ring j.
+abbrev pub held : List ℕ → ℕ → List ℕ
+held holds j = slice_set holds j ((slice_index holds j + 1) % 2 ^ 64)
 
 -- A kept prototype that is the sum of marked ones, those of its own length named by t.
 unfoldable pub summed_in : Family → ℕ → Ledger → Ledger

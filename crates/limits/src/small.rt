@@ -1,76 +1,49 @@
-//! Small compounds in tables: a digit for the number of atoms, three for the bytes lent for family rows, three for those lent for class rows,
-//! and then two digits for each bond, as in `3 008 005 01 12 02`.
-ghost use Rattle.std.specs.Prelude.{◌<◌, ◌≤◌, ◌+◌, length, IfOk};
+//! Small compounds in tables: the number of atoms, the bytes lent for family rows and those lent for class rows, and then two digits for each
+//! bond, as in `3 008 005 01 12 02`.
 
-use cases::Case;
+use crate::line::Call;
+use cases::{Case, Cases};
 use std::io;
+use std::str::Split;
 
-// Stores a digit's value, if there is room. Any other byte is passed over.
-fn digit(byte: u8, values: &mut [u8], count: usize) -> usize
-    requires { count ≤ length values.old }
-    ensures { result ≤ length values.new }
-{
-    if byte < 48 {
-        return count;
-    }
-    if 57 < byte {
-        return count;
-    }
-    if values.len() <= count {
-        return count;
-    }
-    values[count] = byte - 48;
-    count + 1
-}
-
-// The digits of a text, as many as there is room for.
-fn digits(text: &[u8], values: &mut [u8]) -> usize
-    ensures { result ≤ length values.new }
-{
+// The digits of words as bond bytes, as many as there is room for.
+fn digits<'a>(words: Split<'_, char>, room: &'a mut [u8; 32]) -> &'a [u8] {
     let mut count = 0;
-    for i in 0..text.len() {
-        count = digit(text[i], values, count);
+    let bytes = words.flat_map(|word| word.bytes());
+    for (value, digit) in room.iter_mut().zip(bytes) {
+        *value = digit.saturating_sub(b'0');
+        count += 1;
     }
-    count
+    &room[..count]
 }
 
-// A number of three digits.
-fn number(a: u8, b: u8, c: u8) -> usize {
-    100 * (a as usize) + 10 * (b as usize) + c as usize
+// The next of a text's words as a number.
+fn number(words: &mut Split<'_, char>) -> Option<usize> {
+    words.next()?.parse().ok()
 }
 
-// Runs a case whose digits are these.
-fn run(rt: &impl Print, name: &[u8], values: &[u8]) -> io::Result<()> {
-    if values.len() < 7 {
-        return Ok(());
-    }
-    crate::line::run(
-        rt,
-        name,
-        number(0, 0, values[0]),
-        &values[7..],
-        number(values[1], values[2], values[3]),
-        number(values[4], values[5], values[6]),
-    )
-}
-
-// Runs the first case of a table, and answers where the next one starts.
-fn first(rt: &impl Print, table: &[u8]) -> io::Result<usize>
-    ensures result_nonzero { IfOk result (λ next. 0 < next) }
-    ensures upper_bound { IfOk result (λ next. next ≤ length table.now + 1) }
-{
-    let Case { name, from, to } = cases::first(table);
-    let mut values = [0u8; 32];
-    let count = digits(&table[from..to], &mut values);
-    run(rt, &table[0..name], &values[0..count])?;
-    Ok(to + 1)
+// The call that a case describes.
+fn call_of<'a>(body: &str, room: &'a mut [u8; 32]) -> Option<Call<'a>> {
+    let mut words = body.split(' ');
+    let n = number(&mut words)?;
+    let row_bytes = number(&mut words)?;
+    let class_bytes = number(&mut words)?;
+    let bonds = digits(words, room);
+    Some(Call {
+        n,
+        bonds,
+        row_bytes,
+        class_bytes,
+    })
 }
 
 /// Runs all cases of a table.
-pub fn all(rt: &impl Print, table: &[u8]) -> io::Result<()> {
-    let mut at = 0;
-    while at < table.len() {
-        at += first(rt, &table[at..])?;
+pub fn all(rt: &impl Print, table: &str) -> io::Result<()> {
+    for Case { name, body } in Cases(table) {
+        let mut room = [0u8; 32];
+        if let Some(call) = call_of(body, &mut room) {
+            crate::line::run(rt, name, call)?;
+        }
     }
     Ok(())
 }

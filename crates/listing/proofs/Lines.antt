@@ -5,17 +5,15 @@ use Prim.Native.Nat.{ℕ, ◌*◌, ◌<◌, ◌≤◌}
 use native.Mathlib.Omega.{arith}
 use lib.ListN.{length, take, get_or, replicate, length-replicate}
 use lib.Seq.{take-append_seam}
-use Rattle.std.specs.Prelude.{Option, Some, None, IfSome}
+use Rattle.std.specs.Prelude.{Option, Some, None, IfSome, Result, Ok, Err}
 use Rattle.housetext.specs.declared.Text.{Text}
-use Rattle.housetext.specs.declared.Text.TheVariants.{Read, Departs}
+use Rattle.housetext.specs.declared.Departure.{Departure}
 use Rattle.housetext.specs.Text.{Said, passes, refuses, said, Reading, reads, Answers}
 use Rattle.listingtext.specs.Listing.{Wrote, listing, refusal}
 use Rattle.housetext.proofs.RoundTrip.{Says, text_of_reads}
 use Rattle.housetext.proofs.Beginning.{reads_beginning}
 use Rattle.answers.specs.Answered.{Told, full, refused, Answered, by_input, by_rows, by_class_rows, by_rings, in_full}
-use Rattle.rings.specs.declared.Answer.{Answer}
-use Rattle.rings.specs.declared.Answer.TheVariants.{Full, WrongAtoms, WrongBytes, NoAtom, Loop, Again, Pieces, FewRows, FewClassRows, ManyRings}
-use Rattle.rings.specs.Calls.{told}
+use Rattle.rings.specs.Calls.{Answer, told}
 use Rattle.listing.specs.Listed.{lines_of, families_in, classes_in, Printed, departs, answers, Listed}
 
 module _ (n m : ℕ) (rows sizes class_rows : List ℕ) {lent left : List ℕ} {end : ℕ} {t : Told} where
@@ -56,16 +54,8 @@ answered_room (in_full a b c d e) h = record { families = omega arith; classes =
 -- the size asked for changes no room
 room_told : (a : Answer) (s : ℕ) → Room (told a s) → Room (told a 0)
 unfolding told families_in classes_in
-room_told (Full y f c t r) s w = record { families = w.families; classes = w.classes }
-room_told WrongAtoms s w = w
-room_told WrongBytes s w = w
-room_told (NoAtom bond) s w = w
-room_told (Loop bond) s w = w
-room_told (Again bond) s w = w
-room_told Pieces s w = w
-room_told (FewRows needed) s w = w
-room_told (FewClassRows needed) s w = w
-room_told ManyRings s w = w
+room_told (Ok f) s w = record { families = w.families; classes = w.classes }
+room_told (Err r) s w = w
 
 pub answer_room : {n i : ℕ} {bonds rows rows' class_rows' : List ℕ} (a : Answer) (s : ℕ)
     → Answered n bonds rows (replicate 410 0) i (told a s) rows' class_rows' → Room (told a 0)
@@ -77,11 +67,12 @@ pub record Sound (text : List ℕ) (n m : ℕ) (left : List ℕ) : Type 0 where
   pub few : m ≤ 255
   pub bytes : take (2 * m) left ≡ (reads text).bytes
 
-pub read_sound : {text lent left : List ℕ} {r : Text} {n m : ℕ} → Answers (reads text) r lent left → r ≡ Read n m → Sound text n m left
-read_sound {text} {lent} {left} {r} {n} {m} a e =
-    let s : (reads text).says ≡ passes n m = sym a.says ∙ ap said e in
-    let w : Says text n m (reads text).bytes =
-    text_of_reads text n m (reads text).bytes (ap (λ (s : Said). record { says = s; bytes = (reads text).bytes }) s) in
+pub read_sound : {text lent left : List ℕ} {r : Result Text Departure} {t : Text} → Answers (reads text) r lent left → r ≡ Ok t
+    → Sound text t.atoms t.bonds left
+read_sound {text} {lent} {left} {r} {t} a e =
+    let s : (reads text).says ≡ passes t.atoms t.bonds = sym a.says ∙ ap said e in
+    let w : Says text t.atoms t.bonds (reads text).bytes =
+    text_of_reads text t.atoms t.bonds (reads text).bytes (ap (λ (s : Said). record { says = s; bytes = (reads text).bytes }) s) in
     record {
       says = s;
       few = w.bonds;
@@ -91,8 +82,8 @@ read_sound {text} {lent} {left} {r} {n} {m} a e =
           ∙ take-append_seam (reads text).bytes _;
     }
 
-pub read_departs : (text : List ℕ) {lent left : List ℕ} {r : Text} {line : ℕ} → Answers (reads text) r lent left → r ≡ Departs line
-    → (reads text).says ≡ refuses 10 line
+pub read_departs : (text : List ℕ) {lent left : List ℕ} {r : Result Text Departure} {d : Departure} → Answers (reads text) r lent left → r ≡ Err d
+    → (reads text).says ≡ refuses 10 d.line
 read_departs text a e = sym a.says ∙ ap said e
 
 -- the answer to what a text says is what is printed

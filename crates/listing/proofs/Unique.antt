@@ -4,13 +4,13 @@ use mathlib.Core.List.{List, ◌++◌}
 use Prim.Native.Nat.{ℕ, zero, suc, ◌<◌}
 use native.Mathlib.Omega.{arith}
 use lib.ListN.{get_or, replicate}
+use Rattle.std.specs.Prelude.{Ok, Err}
 use Rattle.housetext.specs.Text.{passes, refuses, reads}
 use Rattle.housetext.proofs.Refusal.{passes_refuses}
 use Rattle.listingtext.specs.Listing.{row_of, family_line, family_lines, class_lines, head_lines, listing, refusal}
 use Rattle.answers.specs.Answered.{Told, full, refused, Answered}
 use Rattle.answers.proofs.Unique.{answered_unique}
-use Rattle.rings.specs.declared.Answer.{Answer}
-use Rattle.rings.specs.Calls.{told}
+use Rattle.rings.specs.Calls.{Answer, told}
 use Rattle.rings.proofs.Unique.{told_injective, same_size}
 use Rattle.listing.specs.Listed.{lines_of, families_in, Printed, departs, answers, Listed}
 use Rattle.listing.proofs.Lines.{answer_room}
@@ -35,8 +35,9 @@ lines_same n m rows xs ys class_rows (refused number at) h = refl
 
 -- an answer that tells a family tells one size
 told_size : (a : Answer) (s t : ℕ) → told a s ≡ told a t → 0 < families_in (told a 0) → s ≡ t
-unfolding families_in
-told_size a s t e h = same_size a s t e (λ number at z. absurd (omega (arith, h, ap families_in z)))
+unfolding told families_in
+told_size (Ok f) s t e h = same_size (Ok f) s t e tt
+told_size (Err r) s t e h = absurd (omega (arith, h))
 
 -- what is answered for every row leaves one listing
 lines_unique : (n m : ℕ) (bytes : List ℕ) (a b : Answer) (rows xs class_rows rows' ys class_rows' : List ℕ)

@@ -3,8 +3,7 @@ use Rattle.std.specs.Prelude.{◌≡◌, List, ℕ, ◌<◌, get_or, replicate}
 use Rattle.housetext.specs.Text.{passes, refuses, reads}
 use Rattle.listingtext.specs.Listing.{Wrote, listing, refusal}
 use Rattle.answers.specs.Answered.{Told, full, refused, Answered}
-use Rattle.rings.specs.declared.Answer.{Answer}
-use Rattle.rings.specs.Calls.{told}
+use Rattle.rings.specs.Calls.{Answer, told}
 
 -- The lines of an answer: the listing, or the refusal.
 unfoldable pub lines_of : (atoms bonds : ℕ) → (rows sizes class_rows : List ℕ) → Told → List ℕ

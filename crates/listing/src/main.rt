@@ -11,13 +11,12 @@ ghost use Rattle.listing.specs.Listed.{lines_of, families_in, classes_in, Listed
 
 use housetext::Text;
 use listingtext::Head;
-use rings::Answer;
+use rings::{Answer, Full};
 use std::io::{self, Read};
 
-// The listing of an answer, or the lines of its refusal.
+// The listing of the answer to what a text says, or the lines of its refusal.
 fn write_answer(
-    atoms: usize,
-    bonds: usize,
+    said: Text,
     answer: Answer,
     rows: &[u8],
     sizes: &[u64],
@@ -29,20 +28,22 @@ fn write_answer(
     requires answer_in_bounds_3 { 5 * classes_in (told answer 0) ≤ length class_rows.now }
     requires answer_in_bounds_4 { 199 + 56 * families_in (told answer 0) + 45 * classes_in (told answer 0) ≤ length out.old }
     ensures wrote { Wrote out.old 0
-        (lines_of atoms bonds rows.now sizes.now class_rows.now (told answer 0)) out.new result }
+        (lines_of said.atoms said.bonds rows.now sizes.now class_rows.now (told answer 0)) out.new result }
     ensures upper_bound { result ≤ 199 + 56 * families_in (told answer 0) + 45 * classes_in (told answer 0) }
 {
     match answer {
-        Answer::Full {
-            cyclomatic,
-            families,
-            classes,
-            total,
-            rings,
-        } => {
+        Ok(
+            Full {
+                cyclomatic,
+                families,
+                classes,
+                total,
+                rings,
+            },
+        ) => {
             let head = Head {
-                atoms: atoms as u64,
-                bonds: bonds as u64,
+                atoms: said.atoms as u64,
+                bonds: said.bonds as u64,
                 cyclomatic,
                 families,
                 classes,
@@ -51,10 +52,7 @@ fn write_answer(
             };
             listingtext::write_listing(head, rows, sizes, class_rows, out)
         }
-        _ => {
-            let refusal = rings::refusal_of(answer);
-            listingtext::write_refusal(refusal.number, refusal.at, out)
-        }
+        Err(refusal) => listingtext::write_refusal(refusal.number(), refusal.at(), out),
     }
 }
 
@@ -65,26 +63,22 @@ fn list(text: &[u8], out: &mut [u8]) -> usize
     ensures upper_bound { result ≤ 233265 }
 {
     let mut bonds = [0u8; 510];
-    let said = housetext::read(text, &mut bonds);
-    match said {
-        Text::Departs { line } => listingtext::write_refusal(10, line as u64, out),
-        Text::Read {
-            atoms,
-            bonds: count,
-        } => {
+    match housetext::read(text, &mut bonds) {
+        Ok(said) => {
             let mut rows = [0u8; 32768];
             let mut class_rows = [0u8; 410];
             let mut sizes = [0u64; 4096];
-            let end = 2 * count;
+            let end = 2 * said.bonds;
             let answer = rings::families_sized(
-                atoms,
+                said.atoms,
                 &bonds[..end],
                 &mut rows,
                 &mut class_rows,
                 &mut sizes,
             );
-            write_answer(atoms, count, answer, &rows, &sizes, &class_rows, out)
+            write_answer(said, answer, &rows, &sizes, &class_rows, out)
         }
+        Err(departure) => listingtext::write_refusal(10, departure.line as u64, out),
     }
 }
 

@@ -1,3 +1,4 @@
 -- Laws that belong to no one function.
 pub mod Examples
 pub mod Writing
+pub mod Turns

@@ -1,14 +1,17 @@
 //! The listing as text: what the listing program prints for an answer or a refusal.
 //!
-//! Each function stores its bytes in a lent buffer from a place on and answers the place after them. The bytes are those of
-//! `specs/Listing.antt`; the buffer's other bytes stay as lent. A caller lends as much room as the lines can take.
+//! The bytes are those of `specs/Listing.antt`. They are stored from the start of a lent buffer on, and the buffer's other bytes stay as
+//! lent. A caller lends as much room as the lines can take.
 
 #![tactic(auto)]
 
-ghost use Rattle.std.specs.Prelude.{◌≡◌, [], ◌∷◌, ◌++◌, ◌<◌, ◌≤◌, ◌+◌, ◌*◌, length, get_or};
+ghost use Rattle.std.specs.Prelude.{◌≡◌, [], ◌∷◌, ◌++◌, ◌<◌, ◌≤◌, ◌+◌, ◌*◌, length};
 ghost use Rattle.housetext.specs.Decimal.{decimal};
 ghost use Rattle.housetext.specs.Text.{newline, field};
+ghost use Rattle.listingtext.specs.Page.{Adds};
 ghost use Rattle.listingtext.specs.Listing.{Wrote, commas, cross, comma, refusal, head_lines, family_line, family_lines, class_line, class_lines, listing};
+
+use itoa::Buffer;
 
 /// The numbers of a listing's first lines.
 #[derive(Clone, Copy)]
@@ -29,89 +32,148 @@ pub struct Head {
     pub rings: u64,
 }
 
-// A byte as a number to write.
-fn wide(x: u8) -> u64
-    ensures { result ≡ x }
-{
-    x as u64
+/// A lent buffer and the place in it where the next byte goes.
+#[derive(Drop)]
+pub struct Page<'a> {
+    /// The buffer.
+    pub out: &'a mut [u8],
+    /// The place.
+    pub at: usize,
 }
 
-// One byte.
-fn write_byte(b: u8, out: &mut [u8], at: usize) -> usize
-    requires { at < length out.old }
-    ensures { Wrote out.old at (b ∷ []) out.new result }
-{
-    out[at] = b;
-    at + 1
-}
-
-// A number in decimal.
-fn write_number(x: u64, out: &mut [u8], at: usize) -> usize
-    requires { at + length (decimal x) ≤ length out.old }
-    ensures { Wrote out.old at (decimal x) out.new result }
-{
-    if x < 10 {
-        return write_byte(x as u8 + 48, out, at);
+#[tactic(auto, using(crate::proofs::Writing::decimals))]
+impl Page<'_> {
+    // A word.
+    fn word(&mut self, word: &[u8])
+        requires { self.old.at + length word.now ≤ length self.old.out.now }
+        ensures adds { Adds self.old word.now self.new }
+        ensures value { self.new.at ≡ self.old.at + length word.now }
+    {
+        let end = self.at + word.len();
+        self.out[self.at..end].copy_from_slice(word);
+        self.at = end;
     }
-    let next = write_number(x / 10, out, at);
-    write_byte((x % 10) as u8 + 48, out, next)
-}
 
-// A number in decimal and the byte that ends it.
-fn write_ended(x: u64, end: u8, out: &mut [u8], at: usize) -> usize
-    requires { at + length (decimal x) < length out.old }
-    ensures wrote { Wrote out.old at (decimal x ++ end ∷ []) out.new result }
-    ensures value { result ≡ at + length (decimal x) + 1 }
-{
-    let next = write_number(x, out, at);
-    write_byte(end, out, next)
-}
-
-// A word.
-fn write_word(word: &[u8], out: &mut [u8], at: usize) -> usize
-    requires { at + length word.now ≤ length out.old }
-    ensures { Wrote out.old at word.now out.new result }
-{
-    let mut next = at;
-    for i in 0..word.len() {
-        next = write_byte(word[i], out, next);
+    // A number in decimal.
+    fn number(&mut self, x: u64)
+        requires { self.old.at + length (decimal x) ≤ length self.old.out.now }
+        ensures adds { Adds self.old (decimal x) self.new }
+        ensures value { self.new.at ≡ self.old.at + length (decimal x) }
+    {
+        self.word(Buffer::new().format(x).as_bytes());
     }
-    next
-}
 
-// Bytes in decimal, each with a comma after it.
-fn write_commas(fields: &[u8], out: &mut [u8], at: usize) -> usize
-    requires { at + 4 * length fields.now ≤ length out.old }
-    ensures wrote { Wrote out.old at (commas fields.now) out.new result }
-    ensures upper_bound { result ≤ at + 4 * length fields.now }
-{
-    let mut next = at;
-    for i in 0..fields.len() {
-        next = write_ended(wide(fields[i]), b',', out, next);
+    // A number in decimal and the byte that ends it.
+    fn ended(&mut self, x: u64, end: u8)
+        requires { self.old.at + length (decimal x) < length self.old.out.now }
+        ensures adds { Adds self.old (decimal x ++ end ∷ []) self.new }
+        ensures value { self.new.at ≡ self.old.at + length (decimal x) + 1 }
+    {
+        self.number(x);
+        self.word(&[end]);
     }
-    next
-}
 
-// The atom x of a family row, or a dash if it is odd, and a comma.
-fn write_cross(x: u8, out: &mut [u8], at: usize) -> usize
-    requires { at + 4 ≤ length out.old }
-    ensures wrote { Wrote out.old at (cross x ++ comma ∷ []) out.new result }
-    ensures upper_bound { result ≤ at + 4 }
-{
-    if x == 255 {
-        return write_word(b"-,", out, at);
+    // Bytes in decimal, each with a comma after it.
+    fn commas(&mut self, fields: &[u8])
+        requires { self.old.at + 4 * length fields.now ≤ length self.old.out.now }
+        ensures adds { Adds self.old (commas fields.now) self.new }
+        ensures upper_bound { self.new.at ≤ self.old.at + 4 * length fields.now }
+    {
+        for &x in fields {
+            self.ended(u64::from(x), b',');
+        }
     }
-    write_ended(wide(x), b',', out, at)
-}
 
-// A word, a number and a newline.
-fn write_named(word: &[u8], x: u64, out: &mut [u8], at: usize) -> usize
-    requires { at + length word.now + 21 ≤ length out.old }
-    ensures wrote { Wrote out.old at (field word.now newline x) out.new result }
-    ensures upper_bound { result ≤ at + length word.now + 21 }
-{
-    let next = write_word(word, out, at);
-    write_ended(x, b'\n', out, next)
+    // The atom x of a family row, or a dash if it is odd, and a comma.
+    fn cross(&mut self, x: u8)
+        requires { self.old.at + 4 ≤ length self.old.out.now }
+        ensures adds { Adds self.old (cross x ++ comma ∷ []) self.new }
+        ensures upper_bound { self.new.at ≤ self.old.at + 4 }
+    {
+        match x {
+            255 => self.word(b"-,"),
+            _ => self.ended(u64::from(x), b','),
+        }
+    }
+
+    // A word, a number and a newline.
+    fn named(&mut self, word: &[u8], x: u64)
+        requires { self.old.at + length word.now + 21 ≤ length self.old.out.now }
+        ensures adds { Adds self.old (field word.now newline x) self.new }
+        ensures upper_bound { self.new.at ≤ self.old.at + length word.now + 21 }
+    {
+        self.word(word);
+        self.ended(x, b'\n');
+    }
+
+    /// The listing's first seven lines: at most 199 bytes.
+    pub fn head(&mut self, head: Head)
+        requires { self.old.at + 199 ≤ length self.old.out.now }
+        ensures adds { Adds self.old (head_lines head) self.new }
+        ensures upper_bound { self.new.at ≤ self.old.at + 199 }
+    {
+        self.named(b"atoms=", head.atoms);
+        self.named(b"bonds=", head.bonds);
+        self.named(b"cyclomatic=", head.cyclomatic);
+        self.named(b"families=", head.families);
+        self.named(b"classes=", head.classes);
+        self.named(b"total=", head.total);
+        self.named(b"rings=", head.rings);
+    }
+
+    /// The line of a family, from its row and its size: at most 56 bytes.
+    pub fn family(&mut self, row: &[u8], size: u64)
+        requires in_bounds { 7 ≤ length row.now }
+        requires at_in_bounds { self.old.at + 56 ≤ length self.old.out.now }
+        ensures adds { Adds self.old (family_line row.now size) self.new }
+        ensures upper_bound { self.new.at ≤ self.old.at + 56 }
+    {
+        self.word(b"family=");
+        self.commas(&row[0..4]);
+        self.cross(row[4]);
+        self.commas(&row[5..7]);
+        self.ended(size, b'\n');
+    }
+
+    // The lines of the first families.
+    fn families(&mut self, rows: &[u8], sizes: &[u64], count: usize)
+        requires count_in_bounds { 8 * count ≤ length rows.now }
+        requires count_in_bounds_2 { count ≤ length sizes.now }
+        requires count_in_bounds_3 { self.old.at + 56 * count ≤ length self.old.out.now }
+        ensures adds { Adds self.old (family_lines rows.now sizes.now count) self.new }
+        ensures upper_bound { self.new.at ≤ self.old.at + 56 * count }
+    {
+        for (row, size) in rows.chunks_exact(8).zip(&sizes[..count]) {
+            self.family(row, *size);
+        }
+    }
+
+    /// The line of a class, from its number and its row: at most 45 bytes.
+    pub fn class(&mut self, class: u64, row: &[u8])
+        requires in_bounds { 5 ≤ length row.now }
+        requires at_in_bounds { self.old.at + 45 ≤ length self.old.out.now }
+        ensures adds { Adds self.old (class_line class row.now) self.new }
+        ensures upper_bound { self.new.at ≤ self.old.at + 45 }
+    {
+        let families = u16::from_le_bytes([row[2], row[3]]);
+        self.word(b"class=");
+        self.ended(class, b',');
+        self.commas(&row[0..2]);
+        self.ended(u64::from(families), b',');
+        self.ended(u64::from(row[4]), b'\n');
+    }
+
+    // The lines of the first classes.
+    fn classes(&mut self, rows: &[u8], count: u64)
+        requires count_in_bounds { 5 * count ≤ length rows.now }
+        requires count_in_bounds_2 { self.old.at + 45 * count ≤ length self.old.out.now }
+        ensures adds { Adds self.old (class_lines rows.now count) self.new }
+        ensures upper_bound { self.new.at ≤ self.old.at + 45 * count }
+    {
+        for (class, row) in (0..count).zip(rows.chunks_exact(5)) {
+            self.class(class, row);
+        }
+    }
 }
 
 /// Writes the two lines of a refusal at the start of a buffer, and answers how many bytes they are: at most 53.
@@ -120,93 +182,10 @@ pub fn write_refusal(number: u64, at: u64, out: &mut [u8]) -> usize
     ensures wrote { Wrote out.old 0 (refusal number at) out.new result }
     ensures upper_bound { result ≤ 53 }
 {
-    let next = write_named(b"refused=", number, out, 0);
-    write_named(b"at=", at, out, next)
-}
-
-/// Writes the listing's first seven lines at the start of a buffer, and answers how many bytes they are: at most 199.
-pub fn write_head(head: Head, out: &mut [u8]) -> usize
-    requires { 199 ≤ length out.old }
-    ensures wrote { Wrote out.old 0 (head_lines head) out.new result }
-    ensures upper_bound { result ≤ 199 }
-{
-    let a = write_named(b"atoms=", head.atoms, out, 0);
-    let b = write_named(b"bonds=", head.bonds, out, a);
-    let c = write_named(b"cyclomatic=", head.cyclomatic, out, b);
-    let d = write_named(b"families=", head.families, out, c);
-    let e = write_named(b"classes=", head.classes, out, d);
-    let f = write_named(b"total=", head.total, out, e);
-    write_named(b"rings=", head.rings, out, f)
-}
-
-/// Writes the line of a family from its row and its size, from a place on, and answers the place after it: at most 56 bytes on.
-pub fn write_family(row: &[u8], size: u64, out: &mut [u8], at: usize) -> usize
-    requires in_bounds { 7 ≤ length row.now }
-    requires at_in_bounds { at + 56 ≤ length out.old }
-    ensures wrote { Wrote out.old at (family_line row.now size) out.new result }
-    ensures upper_bound { result ≤ at + 56 }
-{
-    let a = write_word(b"family=", out, at);
-    let b = write_commas(&row[0..4], out, a);
-    let c = write_cross(row[4], out, b);
-    let d = write_commas(&row[5..7], out, c);
-    write_ended(size, b'\n', out, d)
-}
-
-// The number of families in a class row: a low and a high byte.
-fn family_count(row: &[u8]) -> u64
-    requires { 5 ≤ length row.now }
-    ensures value { result ≡ get_or row.now 2 0 + 256 * get_or row.now 3 0 }
-    ensures upper_bound { result < 65536 }
-{
-    wide(row[2]) + 256 * wide(row[3])
-}
-
-/// Writes the line of a class from its number and its row, from a place on, and answers the place after it: at most 45 bytes on.
-pub fn write_class(class: u64, row: &[u8], out: &mut [u8], at: usize) -> usize
-    requires in_bounds { 5 ≤ length row.now }
-    requires at_in_bounds { at + 45 ≤ length out.old }
-    ensures wrote { Wrote out.old at (class_line class row.now) out.new result }
-    ensures upper_bound { result ≤ at + 45 }
-{
-    let a = write_word(b"class=", out, at);
-    let b = write_ended(class, b',', out, a);
-    let c = write_commas(&row[0..2], out, b);
-    let d = write_ended(family_count(row), b',', out, c);
-    write_ended(wide(row[4]), b'\n', out, d)
-}
-
-// The lines of the first families, from a place on.
-fn write_families(rows: &[u8], sizes: &[u64], count: usize, out: &mut [u8], at: usize) -> usize
-    requires count_in_bounds { 8 * count ≤ length rows.now }
-    requires count_in_bounds_2 { count ≤ length sizes.now }
-    requires count_in_bounds_3 { at + 56 * count ≤ length out.old }
-    ensures wrote { Wrote out.old at (family_lines rows.now sizes.now count) out.new result }
-    ensures upper_bound { result ≤ at + 56 * count }
-{
-    let mut next = at;
-    for k in 0..count {
-        let from = 8 * k;
-        let to = from + 8;
-        next = write_family(&rows[from..to], sizes[k], out, next);
-    }
-    next
-}
-
-// The lines of the first classes, from a place on.
-fn write_classes(rows: &[u8], count: usize, out: &mut [u8], at: usize) -> usize
-    requires count_in_bounds { 5 * count ≤ length rows.now }
-    requires count_in_bounds_2 { at + 45 * count ≤ length out.old }
-    ensures wrote { Wrote out.old at (class_lines rows.now count) out.new result }
-    ensures upper_bound { result ≤ at + 45 * count }
-{
-    let mut next = at;
-    for k in 0..count {
-        let from = 5 * k;
-        let to = from + 5;
-        next = write_class(k as u64, &rows[from..to], out, next);
-    }
-    next
+    let mut page = Page { out, at: 0 };
+    page.named(b"refused=", number);
+    page.named(b"at=", at);
+    page.at
 }
 
 /// Writes the listing of an answer at the start of a buffer, and answers how many bytes it is: its numbers, its family rows with a size for
@@ -225,7 +204,9 @@ pub fn write_listing(
     ensures wrote { Wrote out.old 0 (listing head rows.now sizes.now classes.now) out.new result }
     ensures upper_bound { result ≤ 199 + 56 * head.families + 45 * head.classes }
 {
-    let a = write_head(head, out);
-    let b = write_families(rows, sizes, head.families as usize, out, a);
-    write_classes(classes, head.classes as usize, out, b)
+    let mut page = Page { out, at: 0 };
+    page.head(head);
+    page.families(rows, sizes, head.families as usize);
+    page.classes(classes, head.classes);
+    page.at
 }

@@ -1,99 +1,68 @@
--- Whether there are places for all members, and what is answered.
-use mathlib.Core.Path.{◌≡◌, refl, sym, ap, ap₂, ◌∙◌, subst}
-use mathlib.Core.Bool.{true, false}
-use mathlib.Core.List.{List, [], ◌++◌}
-use mathlib.Core.Logic.{⊎_elim}
-use Prim.Native.Nat.{ℕ, ◌+◌, ◌-◌, ◌*◌, ◌/◌, ◌<◌, ◌≤◌}
-use native.Mathlib.Nat.{zero-mul, mul_comm, le-div_iff_mul-le}
+-- The first layers alone, whether there are places for all members, and what is answered.
+use mathlib.Core.Path.{◌≡◌, refl, sym, ap, ap₂, ◌∙◌}
+use mathlib.Core.List.{List, [], ◌∷◌, ◌++◌}
+use Prim.Native.Nat.{ℕ, ◌+◌, ◌*◌, ◌/◌, ◌≤◌}
 use native.Mathlib.Omega.{arith}
-use borrow.Author.Tests.{leb-true, leb-false, le-leb, lt-leb}
-use lib.Dec.{leb}
-use lib.ListN.{length, get_or, take, drop, length-drop}
-use lib.Seq.{take_all, length-take-le}
-use Rattle.bondset.proofs.Laws.{lt_or_ge, pos_of_ne}
+use lib.ListN.{length, take, drop, take-append-drop}
+use lib.Seq.{length-take-le}
+use Rattle.std.specs.Prelude.{Some, None}
+use Rattle.model.specs.Net.{Net}
 use Rattle.model.specs.Layer.{ways}
 use Rattle.paths.specs.Nets.{net}
-use Rattle.counting.specs.Counts.{Disjoint, Sized}
-use Rattle.counting.proofs.Tables.{layer_lt}
-use Rattle.members.specs.declared.Written.{Written}
-use Rattle.members.specs.Listed.{Tables, placed, over, member_sets, layers_in, Counted, Told, Ends}
+use Rattle.counting.specs.declared.PathCounts.{PathCounts}
+use Rattle.counting.specs.Counts.{Counted as Counts}
+use Rattle.members.specs.Listed.{path_sets, sums, member_sets, placed, over, Counted, Told}
 use Rattle.members.proofs.Places.{length_placed}
+use Rattle.members.proofs.Listing.{path_sets_front, ways_front}
 use Rattle.members.proofs.Writing.{member_sets_many}
 
-module _ (places a b : ℕ) where
-  pub enough_none : a ≡ 0 → true ≡ leb (a * b) places
-  enough_none z = sym (le-leb (a * b) places (rw z (omega (arith, zero-mul b))))
+-- ---- the layers nearer to the top than those of p and q
 
-  pub enough_some : (a ≡ 0 → ⊥) → leb b (places / a) ≡ leb (a * b) places
-  enough_some ne =
-      let iff = le-div_iff_mul-le {k = a} {x = b} {y = places} (pos_of_ne a ne) in
-      ⊎_elim (λ (l : places < a * b). lt-leb b (places / a) (few l) ∙ sym (lt-leb (a * b) places l))
-      (λ (l : a * b ≤ places). le-leb b (places / a) (iff.1 (omega (arith, mul_comm a b))) ∙ sym (le-leb (a * b) places l)) (lt_or_ge places (a * b))
-    where
-      few : places < a * b → places / a < b
-      few l =
-          ⊎_elim (λ (m : places / a < b). m)
-          (λ (m : b ≤ places / a). absurd (omega (arith, (le-div_iff_mul-le {k = a} {x = b} {y = places} (pos_of_ne a ne)).0 m, mul_comm a b))) (lt_or_ge (places / a) b)
+module _ (layers : List ℕ) (d : ℕ) (deep : d ≤ length layers) where
+  few : length (take d layers) ≡ d
+  few = length-take-le d layers deep
 
--- The part of the words from the layers on.
-module _ (words : List ℕ) (d : ℕ) (deep : d < length (layers_in words)) where
-  pub long : 192 + d < length words
-  long = omega (arith, length-drop 192 words)
+  ways_take : (adj : List ℕ) (t : ℕ) → ways (net adj []) (take d layers) (length (take d layers)) t ≡ ways (net adj []) layers d t
+  ways_take adj t = rw few (ways_front (take d layers) (drop d layers) (sym (take-append-drop d layers)) adj d t (omega (arith, few)))
 
-  part : take (length words - 192) (drop 192 words) ≡ layers_in words
-  part = take_all (length words - 192) (drop 192 words) (omega (arith, length-drop 192 words))
+  path_sets_take : (G : Net) (t : ℕ) → path_sets G (take d layers) (length (take d layers)) t ≡ path_sets G layers d t
+  path_sets_take G t = rw few (path_sets_front (take d layers) (drop d layers) (sym (take-append-drop d layers)) G d t (omega (arith, few)))
 
-  pub sized_part : {adj counts : List ℕ} → Sized adj (layers_in words) counts d → Sized adj (take (length words - 192) (drop 192 words)) counts d
-  sized_part {adj} {counts} sized = subst (λ (l : List ℕ). Sized adj l counts d) (sym part) sized
+  member_sets_take : (G : Net) (p q l : ℕ) → member_sets G (take d layers) (length (take d layers)) p q l ≡ member_sets G layers d p q l
+  unfolding member_sets
+  member_sets_take G p q l = ap₂ (λ (Ps Qs : List ℕ). sums Ps (sums Qs (l ∷ []))) (path_sets_take G p) (path_sets_take G q)
 
-  pub disjoint_part : Disjoint (layers_in words) d → Disjoint (take (length words - 192) (drop 192 words)) d
-  disjoint_part disjoint = subst (λ (l : List ℕ). Disjoint l d) (sym part) disjoint
+-- ---- the answer
 
-  pub tables_part : {adj counts : List ℕ} → Tables adj (take (length words - 192) (drop 192 words)) d counts → Tables adj (layers_in words) d counts
-  tables_part {adj} {counts} tables = subst (λ (l : List ℕ). Tables adj l d counts) part tables
+module _ {adj layers : List ℕ} {d p q : ℕ} {counts : PathCounts} (are : Counts adj layers d p q counts) (touch : List ℕ) (link : ℕ) where
+  abbrev sets : List ℕ
+  sets = member_sets (net adj touch) layers d p q link
 
-module _ (adj touch layers counts rings : List ℕ) (d p q link : ℕ) (disjoint : Disjoint layers d) (ends : Ends layers d p q) where
-  pub p_lt : p < 64
-  p_lt = layer_lt adj layers d disjoint p ends.one
+  many : length sets ≡ counts.from_p * counts.from_q
+  many = member_sets_many adj touch layers d p q link ∙ sym (ap₂ (λ (x y : ℕ). x * y) are.one are.other)
 
-  pub q_lt : q < 64
-  q_lt = layer_lt adj layers d disjoint q ends.other
+  pub short : {rings : List ℕ} → (counts.from_p * counts.from_q ≤ length rings / 12 → ⊥) → Told sets rings rings None
+  short {rings} no_room = (omega (arith, many, no_room), refl)
 
-  module _ (tables : Tables adj layers d counts) where
-    abbrev sets : List ℕ
-    sets = member_sets (net adj touch) layers d p q link
+  module _ (rings : List ℕ) {n : ℕ} (deep : d ≤ length layers) (room : (counts.from_p * counts.from_q ≤ length rings / 12) × (n ≡ counts.from_p * counts.from_q)) where
+    pub fits : 12 * n ≤ length rings
+    fits = omega (arith, room.0, room.1)
 
-    abbrev a : ℕ
-    a = get_or counts p 0
+    pub counted : Counted adj (take d layers) (take (12 * n) rings) (length (take d layers)) p q counts.from_q
+    counted = record {
+      from_q = are.other ∙ sym (ways_take layers d deep adj q);
+      places =
+          length-take-le (12 * n) rings fits
+          ∙ ap (λ (x : ℕ). 12 * x) (room.1 ∙ ap (λ (x : ℕ). x * counts.from_q) (are.one ∙ sym (ways_take layers d deep adj p)));
+    }
 
-    abbrev b : ℕ
-    b = get_or counts q 0
-
-    a_is : a ≡ ways (net adj []) layers d p
-    a_is = tables.holds d p (omega arith) ends.one
-
-    b_is : b ≡ ways (net adj []) layers d q
-    b_is = tables.holds d q (omega arith) ends.other
-
-    many : length sets ≡ a * b
-    many = member_sets_many adj touch layers d p q link ∙ sym (ap₂ (λ (x y : ℕ). x * y) a_is b_is)
-
-    pub short : leb (a * b) (length rings / 12) ≡ false → Told sets rings rings Written.Short
-    short no_room = (omega (arith, many, leb-false (a * b) (length rings / 12) no_room), refl)
-
-    module _ (room : leb (a * b) (length rings / 12) ≡ true) where
-      pub fits : a * b ≤ length rings / 12
-      fits = leb-true (a * b) (length rings / 12) room
-
-      pub counted : Counted adj layers (take (12 * (a * b)) rings) d p q b
-      counted = record {
-        from_q = b_is;
-        places = length-take-le (12 * (a * b)) rings (omega (arith, fits)) ∙ ap (λ (x : ℕ). 12 * (x * b)) a_is;
-      }
-
-      -- The part in front is written, and the rest stays.
-      pub written : (front : List ℕ) → front ≡ placed sets → Told sets rings (front ++ drop (12 * (a * b)) rings) (Written.All (a * b))
-      unfolding over
-      written front is =
-          let wide : 12 * (a * b) ≡ 0 + length (placed sets) = omega (arith, length_placed sets, many) in
-          (sym many, omega (arith, many, fits), ap₂ (λ (l : List ℕ) (i : ℕ). l ++ drop i rings) is wide)
+    -- The part in front is written, and the rest stays.
+    pub written : {front : List ℕ} → front ≡ placed (member_sets (net adj touch) (take d layers) (length (take d layers)) p q link)
+        → Told sets rings (front ++ drop (12 * n) rings) (Some n)
+    unfolding over
+    written {front} is =
+        let wide : 12 * n ≡ 0 + length (placed sets) = omega (arith, length_placed sets, many, room.1) in (
+          room.1 ∙ sym many,
+          omega (arith, many, room.0),
+          ap₂ (λ (l : List ℕ) (i : ℕ). l ++ drop i rings) (is ∙ ap placed (member_sets_take layers d deep (net adj touch) p q link)) wide,
+        )

@@ -1,7 +1,6 @@
 -- What the proofs of several functions use.
 pub mod Tabled
 pub mod Places
-pub mod Gathered
 pub mod Listing
 pub mod Writing
 pub mod Answering

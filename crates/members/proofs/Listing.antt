@@ -1,22 +1,21 @@
--- The loop over the neighbours that are nearer to the top: what remains to be written makes the whole.
+-- The loop over the neighbours that are nearer to the top: what is left to be written makes the whole.
 use mathlib.Core.Path.{◌≡◌, refl, sym, ap, ap₂, ◌∙◌}
 use mathlib.Core.List.{List, [], ◌∷◌, ◌++◌, map, append-nil}
-use Prim.Native.Nat.{ℕ, zero, suc, ◌+◌, ◌-◌, ◌*◌, ◌/◌, ◌^◌, ◌<◌, ◌≤◌}
+use Prim.Native.Nat.{ℕ, zero, suc, ◌+◌, ◌-◌, ◌*◌, ◌/◌, ◌<◌, ◌≤◌}
 use native.Mathlib.Nat.{mul-le-mul_right}
 use native.Mathlib.Omega.{arith}
-use lib.Bits.{bit_and, bit_xor, xor_zero_r, and_le_r}
-use lib.ListN.{length, get_or, drop, length-append, length-map}
-use lib.Seq.{get_or-take, get_or-drop}
+use lib.Bits.{bit_and, bit_xor, xor_zero_r}
+use lib.ListN.{length, get_or, drop, length-append, length-map, get_or-append}
+use lib.Seq.{get_or-append_seam}
 use Rattle.bondset.specs.Sets.{members}
 use Rattle.bondset.proofs.Laws.{xor_assoc}
-use Rattle.bondset.proofs.Members.{members_zero, members_step}
 use Rattle.model.specs.Fold.{through, each}
-use Rattle.model.specs.Net.{Net, bond}
-use Rattle.model.specs.Layer.{low, ways}
+use Rattle.model.specs.Net.{Net, nbrs, bond}
+use Rattle.model.specs.Layer.{ways}
 use Rattle.paths.specs.Nets.{net}
-use Rattle.counting.proofs.Tables.{others, others_word}
 use Rattle.counting.proofs.WaysNet.{ways_net}
-use Rattle.members.specs.Listed.{nearer, path_sets, sums, placed, places_at, over, last_sets, adj_in, layers_in, Room, Listed}
+use Rattle.members.specs.Listed.{nearer, path_sets, sums, placed, places_at, over, last_sets, Room, Listed}
+use Rattle.members.proofs.Routes.{each_same}
 use Rattle.members.proofs.Places.{over_none, length_over, drop_over, over_over, placed_append, length_placed, sums_append, length_sums, length_places, places_same}
 
 -- ---- as many sets as paths
@@ -48,30 +47,28 @@ map_append f [] ys = refl
 map_append f (x ∷ xs) ys = ap (λ (l : List ℕ). f x ∷ l) (map_append f xs ys)
 
 module _ (G : Net) (us : List ℕ) (e t path : ℕ) where
-  -- The sets of the paths through the atoms that remain, `path` and all.
-  unfoldable pub left : ℕ → List ℕ
-  left rest = each (λ s. map (bit_xor (bit_xor path (bond G t s))) (path_sets G us e s)) (members 64 rest)
+  -- The sets of the paths through the atoms that are left, `path` and all.
+  unfoldable pub left : List ℕ → List ℕ
+  left = each (λ s. map (bit_xor (bit_xor path (bond G t s))) (path_sets G us e s))
 
-  all_left : (L : List ℕ) → map (bit_xor path) (each (λ s. map (bit_xor (bond G t s)) (path_sets G us e s)) L)
-      ≡ each (λ s. map (bit_xor (bit_xor path (bond G t s))) (path_sets G us e s)) L
-  unfolding each
+  all_left : (L : List ℕ) → map (bit_xor path) (each (λ s. map (bit_xor (bond G t s)) (path_sets G us e s)) L) ≡ left L
+  unfolding left each
   all_left [] = refl
   all_left (s ∷ L) =
       map_append (bit_xor path) (map (bit_xor (bond G t s)) (path_sets G us e s)) _
       ∙ ap₂ (λ (x y : List ℕ). x ++ y) (map_xor path (bond G t s) (path_sets G us e s)) (all_left L)
 
-  pub left_start : map (bit_xor path) (path_sets G us (suc e) t) ≡ left (nearer G us e t)
-  unfolding path_sets left
+  left_start : map (bit_xor path) (path_sets G us (suc e) t) ≡ left (members 64 (nearer G us e t))
+  unfolding path_sets
   left_start = all_left (members 64 (nearer G us e t))
 
-  pub left_none : left 0 ≡ []
+  left_none : left [] ≡ []
   unfolding left each
-  left_none = rw (members_zero 64)
+  left_none = refl
 
-  pub left_more : (rest : ℕ) → 0 < rest → rest < 2 ^ 64
-      → left rest ≡ map (bit_xor (bit_xor path (bond G t (low rest)))) (path_sets G us e (low rest)) ++ left (others rest)
+  left_more : (s : ℕ) (L : List ℕ) → left (s ∷ L) ≡ map (bit_xor (bit_xor path (bond G t s))) (path_sets G us e s) ++ left L
   unfolding left each
-  left_more rest some word = rw (members_step 64 rest some word)
+  left_more s L = refl
 
 -- A bond asks for the bonds at the atoms alone.
 pub bond_net : (adj touch : List ℕ) (a b : ℕ) → bond (net [] touch) a b ≡ bond (net adj touch) a b
@@ -96,16 +93,46 @@ module _ (adj touch layers rings rings' : List ℕ) (e t path count at : ℕ) (z
     ends = rw top_one (omega arith);
   }
 
+-- ---- the first layers alone
+
+-- The last layer is that of the number of those before it.
+pub last_layer : {layers : List ℕ} (us : List ℕ) (layer : ℕ) → layers ≡ us ++ (layer ∷ []) → get_or layers (length us) 0 ≡ layer
+last_layer us layer e = rw e (get_or-append_seam us layer [] 0)
+
+-- The paths from an atom ask for the layers nearer to the top alone.
+module _ {layers : List ℕ} (us more : List ℕ) (whole : layers ≡ us ++ more) where
+  pub path_sets_front : (G : Net) (e t : ℕ) → e ≤ length us → path_sets G us e t ≡ path_sets G layers e t
+  unfolding path_sets
+  path_sets_front G zero t h = refl
+  path_sets_front G (suc e) t h =
+      let same : get_or us e 0 ≡ get_or layers e 0 = rw whole (sym (get_or-append us more 0 e (omega arith))) in
+      ap (λ (w : ℕ). each (λ s. map (bit_xor (bond G t s)) (path_sets G us e s)) (members 64 (bit_and (nbrs G t) w))) same
+      ∙ each_same _ _ (λ s. ap (map (bit_xor (bond G t s))) (path_sets_front G e s (omega arith))) (members 64 (nearer G layers e t))
+
+  pub ways_front : (adj : List ℕ) (e t : ℕ) → e ≤ length us → ways (net adj []) us e t ≡ ways (net adj []) layers e t
+  ways_front adj e t h =
+      sym (path_sets_many (net adj []) us e t) ∙ ap length (path_sets_front (net adj []) e t h) ∙ path_sets_many (net adj []) layers e t
+
+  module _ (adj : List ℕ) (e t : ℕ) (h : e ≤ length us) where
+    pub room_front : {rings : List ℕ} {count at : ℕ} → Room rings count at (ways (net adj []) layers e t) → Room rings count at (ways (net adj []) us e t)
+    room_front {rings} {count} {at} room = rw (ways_front adj e t h) room
+
+    pub listed_front : {touch rings rings' : List ℕ} {path count at end : ℕ} → Listed adj touch us e t path count at rings rings' end
+        → Listed adj touch layers e t path count at rings rings' end
+    listed_front {touch} {rings} {rings'} {path} {count} {at} {end} listed = record {
+      written = rw (path_sets_front (net adj touch) e t h) at listed.written;
+      ends = rw (ways_front adj e t h) at listed.ends;
+    }
+
 -- ---- the loop
 
--- From place `next` on, what remains makes the goal; the source stands as long as anything remains.
-pub record Listing (G : Net) (us : List ℕ) (e t path from count : ℕ) (rings₀ goal : List ℕ) (end : ℕ) (rings : List ℕ) (rest next : ℕ) : Type 0 where
-  pub word : rest < 2 ^ 64
+-- From place `next` on, what is left makes the goal; the source stands as long as anything is left.
+pub record Listing (G : Net) (us : List ℕ) (e t path from count : ℕ) (rings₀ goal : List ℕ) (end : ℕ) (rings todo : List ℕ) (next : ℕ) : Type 0 where
   pub same : length rings ≡ length rings₀
-  pub room : next + length (left G us e t path rest) * count ≤ from + count
-  pub all : next + length (left G us e t path rest) * count ≡ end
-  pub source : 0 < length (left G us e t path rest) → places_at rings from count ≡ places_at rings₀ from count
-  pub makes : over rings (12 * next) (placed (sums (left G us e t path rest) (places_at rings₀ from count))) ≡ goal
+  pub room : next + length (left G us e t path todo) * count ≤ from + count
+  pub all : next + length (left G us e t path todo) * count ≡ end
+  pub source : 0 < length (left G us e t path todo) → places_at rings from count ≡ places_at rings₀ from count
+  pub makes : over rings (12 * next) (placed (sums (left G us e t path todo) (places_at rings₀ from count))) ≡ goal
 
 -- Where something is written, the source is the old one.
 sums_source : (A B xs ys : List ℕ) → (0 < length (A ++ B) → ys ≡ xs) → sums A ys ≡ sums A xs
@@ -113,93 +140,84 @@ unfolding sums each
 sums_source [] B xs ys h = refl
 sums_source (a ∷ A) B xs ys h = ap (λ (l : List ℕ). sums (a ∷ A) l) (h (omega arith))
 
-module _ (adj touch layers : List ℕ) (e t path count at : ℕ) (rings₀ : List ℕ) where
+module _ (adj touch layers : List ℕ) (n e t path count at : ℕ) (rings₀ : List ℕ) where
+  abbrev G : Net
+  G = net adj touch
+
   abbrev from : ℕ
   from = length rings₀ / 12 - count
 
   abbrev pub wanted : List ℕ
-  wanted = over rings₀ (12 * at) (placed (sums (map (bit_xor path) (path_sets (net adj touch) layers e t)) (last_sets rings₀ count)))
+  wanted = over rings₀ (12 * at) (placed (sums (map (bit_xor path) (path_sets G layers n t)) (last_sets rings₀ count)))
 
-  abbrev pub Going : List ℕ → ℕ → ℕ → Type 0
-  Going = Listing (net adj touch) layers (e - 1) t path from count rings₀ wanted (at + ways (net adj []) layers e t * count)
+  abbrev pub Going : List ℕ → List ℕ → ℕ → Type 0
+  Going = Listing G layers e t path from count rings₀ wanted (at + ways (net adj []) layers n t * count)
 
-  pub going_start : (e ≡ 0 → ⊥) → get_or layers (e - 1) 0 < 2 ^ 64 → Room rings₀ count at (ways (net adj []) layers e t)
-      → Going rings₀ (bit_and (get_or adj t 0) (get_or layers (e - 1) 0)) at
-  going_start ne word room =
-      let G = net adj touch in
-      let rest = bit_and (get_or adj t 0) (get_or layers (e - 1) 0) in
-      let f : e ≡ suc (e - 1) = omega arith in
-      let same : map (bit_xor path) (path_sets G layers e t) ≡ left G layers (e - 1) t path rest =
-      ap (λ (i : ℕ). map (bit_xor path) (path_sets G layers i t)) f ∙ left_start G layers (e - 1) t path in
-      let many : length (left G layers (e - 1) t path rest) ≡ ways (net adj []) layers e t =
-      sym (ap length same) ∙ length-map (path_sets G layers e t) (bit_xor path) ∙ path_sets_many G layers e t in
-      record {
-        word = omega (arith, and_le_r (get_or adj t 0) (get_or layers (e - 1) 0));
-        same = refl;
-        room = rw many (omega (arith, room.target, room.source));
-        all = rw many;
-        source = λ h. refl;
-        makes = rw (← same);
-      }
+  pub going_start : {layer : ℕ} → n ≡ suc e → get_or layers e 0 ≡ layer → Room rings₀ count at (ways (net adj []) layers n t)
+      → Going rings₀ (members 64 (bit_and (get_or adj t 0) layer)) at
+  going_start {layer} step last room =
+      let todo = members 64 (bit_and (get_or adj t 0) layer) in
+      let same : map (bit_xor path) (path_sets G layers n t) ≡ left G layers e t path todo =
+      ap (λ (i : ℕ). map (bit_xor path) (path_sets G layers i t)) step ∙ left_start G layers e t path
+      ∙ ap (λ (w : ℕ). left G layers e t path (members 64 (bit_and (get_or adj t 0) w))) last in
+      let many : length (left G layers e t path todo) ≡ ways (net adj []) layers n t =
+      sym (ap length same) ∙ length-map (path_sets G layers n t) (bit_xor path) ∙ path_sets_many G layers n t in
+      record { same = refl; room = rw many (omega (arith, room.target, room.source)); all = rw many; source = λ h. refl; makes = rw (← same) }
 
-  pub going_end : (rings : List ℕ) (rest next : ℕ) → rest ≡ 0 → Going rings rest next → Listed adj touch layers e t path count at rings₀ rings next
+  pub going_end : {rings todo : List ℕ} {next : ℕ} → todo ≡ [] → Going rings todo next → Listed adj touch layers n t path count at rings₀ rings next
   unfolding sums placed each
-  going_end rings rest next z going =
-      let none : left (net adj touch) layers (e - 1) t path rest ≡ [] = ap (left (net adj touch) layers (e - 1) t path) z ∙ left_none (net adj touch) layers (e - 1) t path in
+  going_end {rings} {todo} {next} z going =
+      let none : left G layers e t path todo ≡ [] = rw z (left_none G layers e t path) in
       record {
         written = sym (over_none rings (12 * next)) ∙ (rw none at going.makes);
         ends = omega (arith, rw none at going.all);
       }
 
-  module _ (rings : List ℕ) (rest next : ℕ) (going : Going rings rest next) (some : 0 < rest) (source : count ≤ length rings₀ / 12) where
-    abbrev s : ℕ
-    s = low rest
-
+  module _ {rings todo : List ℕ} {next : ℕ} (going : Going rings todo next) (source : count ≤ length rings₀ / 12) {s : ℕ} {todo' : List ℕ} (more : todo ≡ s ∷ todo') where
     abbrev here : List ℕ
-    here = map (bit_xor (bit_xor path (bond (net adj touch) t s))) (path_sets (net adj touch) layers (e - 1) s)
+    here = map (bit_xor (bit_xor path (bond G t s))) (path_sets G layers e s)
 
     abbrev later : List ℕ
-    later = left (net adj touch) layers (e - 1) t path (others rest)
+    later = left G layers e t path todo'
 
-    turn : left (net adj touch) layers (e - 1) t path rest ≡ here ++ later
-    turn = left_more (net adj touch) layers (e - 1) t path rest some going.word
+    turn : left G layers e t path todo ≡ here ++ later
+    turn = rw more (left_more G layers e t path s todo')
 
-    many : length here ≡ ways (net adj []) layers (e - 1) s
-    many = length-map (path_sets (net adj touch) layers (e - 1) s) (bit_xor (bit_xor path (bond (net adj touch) t s))) ∙ path_sets_many (net adj touch) layers (e - 1) s
+    many : length here ≡ ways (net adj []) layers e s
+    many = length-map (path_sets G layers e s) (bit_xor (bit_xor path (bond G t s))) ∙ path_sets_many G layers e s
 
-    both : length (left (net adj touch) layers (e - 1) t path rest) ≡ ways (net adj []) layers (e - 1) s + length later
+    both : length (left G layers e t path todo) ≡ ways (net adj []) layers e s + length later
     both = ap length turn ∙ length-append here later ∙ ap (λ (w : ℕ). w + length later) many
 
-    -- There is room for the paths through the lowest atom that remains.
-    pub going_room : Room rings count next (ways (net adj []) layers (e - 1) s)
+    -- There is room for the paths through the atom of a turn.
+    pub going_room : Room rings count next (ways (net adj []) layers e s)
     going_room = record { source = omega (arith, going.same); target = omega (arith, going.same, rw both at going.room) }
 
     -- These are written.
-    pub going_more : (rings' : List ℕ) (r path' : ℕ) → path' ≡ bit_xor path (bond (net adj touch) t s)
-        → Listed adj touch layers (e - 1) s path' count next rings rings' r → Going rings' (others rest) r
-    going_more rings' r path' is listed =
+    pub going_more : {rings' : List ℕ} {r path' : ℕ} → path' ≡ bit_xor path (bond G t s) → Listed adj touch layers e s path' count next rings rings' r
+        → Going rings' todo' r
+    going_more {rings'} {r} {path'} is listed =
         let xs = places_at rings₀ from count in
         let k = 12 * next in
         let u = placed (sums here xs) in
-        let w = ways (net adj []) layers (e - 1) s in
+        let w = ways (net adj []) layers e s in
         let old : 0 < length (here ++ later) → places_at rings from count ≡ xs = rw turn at going.source in
         let new : rings' ≡ over rings k u =
         listed.written
-        ∙ ap₂ (λ (p m : ℕ). over rings k (placed (sums (map (bit_xor p) (path_sets (net adj touch) layers (e - 1) s)) (places_at rings (m / 12 - count) count)))) is going.same
+        ∙ ap₂ (λ (p m : ℕ). over rings k (placed (sums (map (bit_xor p) (path_sets G layers e s)) (places_at rings (m / 12 - count) count)))) is going.same
         ∙ ap (λ (l : List ℕ). over rings k (placed l)) (sums_source here later xs (places_at rings from count) old) in
         let wide : length u ≡ 12 * (w * count) =
         length_placed (sums here xs)
         ∙ ap (λ (i : ℕ). 12 * i) (length_sums here xs ∙ ap₂ (λ (i j : ℕ). i * j) many (length_places rings₀ from count)) in
         let room : next + (w + length later) * count ≤ from + count = rw both at going.room in
-        let all : next + (w + length later) * count ≡ at + ways (net adj []) layers e t * count = rw both at going.all in
+        let all : next + (w + length later) * count ≡ at + ways (net adj []) layers n t * count = rw both at going.all in
         let in-room : k + length u ≤ length rings = omega (arith, going.same) in
         record {
-          word = others_word rest some going.word;
           same = ap length new ∙ length_over rings k u in-room ∙ going.same;
           room = omega (arith, listed.ends);
           all = omega (arith, listed.ends);
-          source = λ more.
-              let below : k + length u ≤ 12 * from = omega (arith, mul-le-mul_right count more) in
+          source = λ some.
+              let below : k + length u ≤ 12 * from = omega (arith, mul-le-mul_right count some) in
               places_same rings' rings from count (ap (drop (12 * from)) new ∙ drop_over rings k u in-room (12 * from) below)
               ∙ old (omega (arith, length-append here later));
           makes =
@@ -208,12 +226,3 @@ module _ (adj touch layers : List ℕ) (e t path count at : ℕ) (rings₀ : Lis
               ∙ ap (over rings k) (sym (placed_append (sums here xs) (sums later xs)) ∙ ap placed (sym (sums_append here later xs)))
               ∙ (rw turn at going.makes);
         }
-
--- ---- the words
-
-module _ (words : List ℕ) where
-  pub adj_in_lem : (t : ℕ) → t < 64 → get_or words t 0 ≡ get_or (adj_in words) t 0
-  adj_in_lem t h = sym (get_or-take 64 words t 0 h)
-
-  pub layer_in : (e : ℕ) → (e ≡ 0 → ⊥) → get_or words (191 + e) 0 ≡ get_or (layers_in words) (e - 1) 0
-  layer_in e ne = let f : 191 + e ≡ 192 + (e - 1) = omega arith in rw f (sym (get_or-drop 192 words (e - 1) 0))

@@ -22,8 +22,8 @@ use Rattle.model.proofs.Ready.{held, Ready, Layered}
 use Rattle.model.proofs.Walks.{Linked, candidate_linked}
 use Rattle.model.proofs.ItemsLists.{∈_each, from_each}
 use Rattle.paths.specs.Nets.{net}
-use Rattle.members.specs.declared.Written.{Written}
-use Rattle.members.specs.Listed.{nearer, path_sets, sums, member_sets, adj_in, touch_in, layers_in, net_in, Told}
+use Rattle.std.specs.Prelude.{Option, Some, None}
+use Rattle.members.specs.Listed.{nearer, path_sets, sums, member_sets, Told}
 use Rattle.members.specs.Ordered.{Sooner, Rising, Members}
 use Rattle.members.proofs.Routes.{Climb, climb_map, climb_each, Image, from_map, in_map, map_each, each_same}
 use Rattle.members.proofs.Routes.{Route, routes, routes_sets, routes_climb, routes_go, routes_all}
@@ -234,7 +234,7 @@ module _ (c : Compound) (rank pre : ℕ → ℕ) (ready : Ready c rank pre) (us 
         ordered = rising_pairs (pairs_climb (link G f) (routes_climb G us d f.p) (routes_climb G us d f.q)) made_all;
       })
 
--- ---- the words
+-- ---- the net
 
 -- The rings that are listed ask for the neighbours and the bonds alone.
 path_sets_net : (G : Net) (us : List ℕ) (e t : ℕ) → path_sets (net G.adj G.touch) us e t ≡ path_sets G us e t
@@ -246,30 +246,30 @@ pub member_sets_net : (G : Net) (us : List ℕ) (d p q l : ℕ) → member_sets 
 unfolding member_sets
 member_sets_net G us d p q l = ap₂ (λ (Ps Qs : List ℕ). sums Ps (sums Qs (l ∷ []))) (path_sets_net G us d p) (path_sets_net G us d q)
 
--- The words hold a compound and the layers of a top atom.
-pub record Holds (c : Compound) (pre : ℕ → ℕ) (r h : ℕ) (words : List ℕ) : Type 0 where
-  pub adj : adj_in words ≡ (net_of c).adj
-  pub touch : touch_in words ≡ (net_of c).touch
-  pub layers : Layered c pre r h (layers_in words)
+-- The neighbours, the bonds and the layers are those of a compound and a top atom.
+pub record Holds (c : Compound) (pre : ℕ → ℕ) (r h : ℕ) (adj touch layers : List ℕ) : Type 0 where
+  pub adj_held : adj ≡ (net_of c).adj
+  pub touch_held : touch ≡ (net_of c).touch
+  pub layered : Layered c pre r h layers
 
-module _ (c : Compound) (rank pre : ℕ → ℕ) (ready : Ready c rank pre) (words : List ℕ) (h d : ℕ) (f : Family) (between : List ℕ)
-    (inside : f.r < c.n) (holds : Holds c pre f.r h words) (deep : d ≤ h) (candidate : Candidate c rank f d between) (kept : Kept c rank f) where
+module _ (c : Compound) (rank pre : ℕ → ℕ) (ready : Ready c rank pre) (adj touch layers : List ℕ) (h d : ℕ) (f : Family) (between : List ℕ)
+    (inside : f.r < c.n) (holds : Holds c pre f.r h adj touch layers) (deep : d ≤ h) (candidate : Candidate c rank f d between) (kept : Kept c rank f) where
   -- What `rings` lists for a kept family are its members in order.
-  pub words_members : Members c rank f (member_sets (net_in words) (layers_in words) d f.p f.q (link (net_of c) f))
-  words_members =
-      rw (holds.adj, holds.touch, member_sets_net (net_of c) (layers_in words) d f.p f.q (link (net_of c) f))
-      (listed_members c rank pre ready (layers_in words) h d f between inside holds.layers deep candidate kept)
+  pub held_members : Members c rank f (member_sets (net adj touch) layers d f.p f.q (link (net_of c) f))
+  held_members =
+      rw (holds.adj_held, holds.touch_held, member_sets_net (net_of c) layers d f.p f.q (link (net_of c) f))
+      (listed_members c rank pre ready layers h d f between inside holds.layered deep candidate kept)
 
   -- What it answers is the family's size.
   pub answered_size : (before after : List ℕ) (n : ℕ)
-      → Told (member_sets (net_in words) (layers_in words) d f.p f.q (link (net_of c) f)) before after (Written.All n) → Size c rank f n
-  answered_size before after n told = subst (Size c rank f) (sym told.0) (members_size c rank f words_members)
+      → Told (member_sets (net adj touch) layers d f.p f.q (link (net_of c) f)) before after (Some n) → Size c rank f n
+  answered_size before after n told = subst (Size c rank f) (sym told.0) (members_size c rank f held_members)
 
 -- ---- one answer
 
 -- One answer is possible, and one content of the buffer.
-pub told_unique : (sets before after after' : List ℕ) (w w' : Written) → Told sets before after w → Told sets before after' w' → (w ≡ w') × (after ≡ after')
-told_unique sets before after after' (Written.All n) (Written.All n') s t = (ap Written.All (s.0 ∙ sym t.0), s.2 ∙ sym t.2)
-told_unique sets before after after' (Written.All n) Written.Short s t = absurd (omega (arith, s.1, t.0))
-told_unique sets before after after' Written.Short (Written.All n) s t = absurd (omega (arith, s.0, t.1))
-told_unique sets before after after' Written.Short Written.Short s t = (refl, s.1 ∙ sym t.1)
+pub told_unique : (sets before after after' : List ℕ) (w w' : Option ℕ) → Told sets before after w → Told sets before after' w' → (w ≡ w') × (after ≡ after')
+told_unique sets before after after' (Some n) (Some n') s t = (ap Some (s.0 ∙ sym t.0), s.2 ∙ sym t.2)
+told_unique sets before after after' (Some n) None s t = absurd (omega (arith, s.1, t.0))
+told_unique sets before after after' None (Some n) s t = absurd (omega (arith, s.0, t.1))
+told_unique sets before after after' None None s t = (refl, s.1 ∙ sym t.1)

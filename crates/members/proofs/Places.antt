@@ -1,15 +1,14 @@
 -- Bytes written over a list, sets as bytes, and the sets in the places of a buffer.
 use mathlib.Core.Path.{◌≡◌, refl, sym, ap, ap₂, ◌∙◌}
 use mathlib.Core.List.{List, [], ◌∷◌, ◌++◌, map, append_assoc, append-nil}
-use Prim.Native.Nat.{ℕ, zero, suc, ◌+◌, ◌-◌, ◌*◌, ◌/◌, ◌%◌, ◌^◌, ◌<◌, ◌≤◌, min}
+use Prim.Native.Nat.{ℕ, zero, suc, ◌+◌, ◌-◌, ◌*◌, ◌<◌, ◌≤◌, min}
 use native.Mathlib.Nat.{add-zero, sub-zero}
-use native.Mathlib.Numerals.{add-one}
 use native.Mathlib.Omega.{arith}
-use lib.Bits.{bit_xor, xor_shr, xor_mod}
-use lib.ListN.{length, get_or, take, drop, set as set_at, length-append, length-take, length-drop, length-map, take-append-drop, drop_of_length-le}
-use lib.Seq.{take_all, take_at, drop-append-add, drop-drop, get_or-drop, paste, paste-zero, paste-suc, length-paste, drop-paste}
-use Rattle.bondset.specs.Bytes.{byte_of, bytes_of, of_bytes}
-use Rattle.bondset.proofs.Bytes.{length_bytes_of, get_or_bytes_of, byte_of_of_first}
+use lib.Bits.{bit_xor}
+use lib.ListN.{length, take, drop, length-append, length-take, length-drop, length-map, take-append-drop, drop_of_length-le}
+use lib.Seq.{take_all, take_at, drop-append-add, drop-drop, paste}
+use Rattle.bondset.specs.Bytes.{bytes_of, of_bytes}
+use Rattle.bondset.proofs.Bytes.{length_bytes_of}
 use Rattle.model.specs.Fold.{each}
 use Rattle.members.specs.Listed.{sums, placed, places_at, over}
 
@@ -166,56 +165,3 @@ module _ (path from count at : ℕ) (rings : List ℕ) (source : 12 * (from + co
   pub block_end : (j : ℕ) → count ≤ j → rest_block path from count at rings j ≡ rings
   unfolding places_at placed each
   block_end j le = let c : count - j ≡ 0 = omega arith in rw c (over_none rings (12 * (at + j)))
-
--- ---- one place, byte by byte
-
--- A byte of a sum is the sum of the bytes.
-byte_xor : (a b k : ℕ) → byte_of (bit_xor a b) k ≡ bit_xor (byte_of a k) (byte_of b k)
-byte_xor a b k = ap (λ (x : ℕ). x % 2 ^ 8) (xor_shr a b (8 * k)) ∙ xor_mod (a / 2 ^ (8 * k)) (b / 2 ^ (8 * k)) 8
-
-module _ (set from to : ℕ) (rings₀ : List ℕ) (fits : 12 * (from + 1) ≤ length rings₀) (below : to ≤ from)
-    (bytes : (i : ℕ) → i < length rings₀ → get_or rings₀ i 0 < 256) where
-  abbrev mixed : List ℕ
-  mixed = bytes_of 12 (bit_xor set (of_bytes (drop (12 * from) rings₀)))
-
-  long : length mixed ≡ 12
-  long = length_bytes_of 12 (bit_xor set (of_bytes (drop (12 * from) rings₀)))
-
-  -- So many bytes are written.
-  abbrev pub Mixing : List ℕ → ℕ → Type 0
-  Mixing rings k = rings ≡ paste rings₀ (12 * to) mixed k
-
-  pub mixing_start : Mixing rings₀ 0
-  mixing_start = paste-zero rings₀ (12 * to) mixed
-
-  pub mixing_length : (rings : List ℕ) (k : ℕ) → k ≤ 12 → Mixing rings k → length rings ≡ length rings₀
-  mixing_length rings k h is = ap length is ∙ length-paste rings₀ (12 * to) mixed k (omega arith) (omega (arith, long))
-
-  -- A byte of the source is not written over before it is read.
-  still : (rings : List ℕ) (k : ℕ) → k < 12 → Mixing rings k → get_or rings (12 * from + k) 0 ≡ get_or rings₀ (12 * from + k) 0
-  still rings k h is =
-      let i = 12 * from - 12 * to in
-      let e : 12 * from + k ≡ 12 * to + k + i = omega arith in
-      ap₂ (λ (l : List ℕ) (x : ℕ). get_or l x 0) is e
-      ∙ sym (get_or-drop (12 * to + k) (paste rings₀ (12 * to) mixed k) i 0)
-      ∙ ap (λ (l : List ℕ). get_or l i 0) (drop-paste rings₀ (12 * to) mixed k (omega arith) (omega (arith, long)))
-      ∙ get_or-drop (12 * to + k) rings₀ i 0 ∙ ap (λ (x : ℕ). get_or rings₀ x 0) (sym e)
-
-  pub mixing_more : (rings : List ℕ) (k b : ℕ) → k < 12 → Mixing rings k → b ≡ byte_of set k
-      → Mixing (set_at rings (12 * to + k) (bit_xor b (get_or rings (12 * from + k) 0))) (k + 1)
-  mixing_more rings k b h is eb =
-      let D = drop (12 * from) rings₀ in
-      let read : byte_of (of_bytes D) k ≡ get_or rings (12 * from + k) 0 =
-      byte_of_of_first 12 D (λ j l. rw get_or-drop (bytes (12 * from + j) (omega arith))) k h ∙ get_or-drop (12 * from) rings₀ k 0 ∙ sym (still rings k h is) in
-      let value : bit_xor b (get_or rings (12 * from + k) 0) ≡ get_or mixed k 0 =
-      sym (get_or_bytes_of 12 (bit_xor set (of_bytes D)) k h ∙ byte_xor set (of_bytes D) k ∙ ap₂ bit_xor (sym eb) read) in
-      ap₂ (λ (l : List ℕ) (x : ℕ). set_at l (12 * to + k) x) is value
-      ∙ paste-suc rings₀ (12 * to) mixed k 0 (omega arith) (omega (arith, long))
-      ∙ ap (paste rings₀ (12 * to) mixed) (sym (add-one k))
-
-  pub mixing_end : (rings : List ℕ) (k : ℕ) → k ≡ 12 → Mixing rings k → rings ≡ over rings₀ (12 * to) mixed
-  unfolding over
-  mixing_end rings k e is =
-      is ∙ ap (paste rings₀ (12 * to) mixed) e
-      ∙ ap₂ (λ (l : List ℕ) (i : ℕ). take (12 * to) rings₀ ++ l ++ drop (12 * to + i) rings₀) (take_all 12 mixed (omega (arith, long))) (sym long)
-      ∙ append_assoc (take (12 * to) rings₀) mixed (drop (12 * to + length mixed) rings₀)

@@ -15,7 +15,7 @@ use Rattle.bondset.proofs.Bytes.{length_bytes_of, get_or_bytes_of}
 use Rattle.model.specs.Fold.{each}
 use Rattle.model.specs.Layer.{ways}
 use Rattle.paths.specs.Nets.{net}
-use Rattle.members.specs.Listed.{path_sets, sums, member_sets, placed, places_at, over, last_sets, Counted, Room, Listed}
+use Rattle.members.specs.Listed.{path_sets, sums, member_sets, placed, places_at, over, last_sets, Counted, Listed}
 use Rattle.members.proofs.Places.{length_over, over_over, over_whole, placed_append, placed_first, placed_one, length_placed, length_sums}
 use Rattle.members.proofs.Listing.{path_sets_many}
 
@@ -155,9 +155,6 @@ module _ (adj touch layers rings : List ℕ) (d p q link b : ℕ) (counted : Cou
       length₁ : length rings₁ ≡ length rings
       length₁ = ap length linked ∙ length_over rings (12 * (n - 1)) (bytes_of 12 link) (omega (arith, length_bytes_of 12 link, whole))
 
-      pub room_q : Room rings₁ 1 (n - b) (ways (net adj []) layers d q)
-      room_q = record { source = omega (arith, length₁); target = omega (arith, length₁, counted.from_q, one_block) }
-
       module _ (rings₂ : List ℕ) (r : ℕ) (listed₂ : Listed adj touch layers d q 0 1 (n - b) rings₁ rings₂ r) where
         source₁ : last_sets rings₁ 1 ≡ map kept (link ∷ [])
         source₁ =
@@ -174,9 +171,6 @@ module _ (adj touch layers rings : List ℕ) (d p q link b : ℕ) (counted : Cou
         length₂ =
             ap length written₂
             ∙ length_over rings₁ (12 * (n - b)) (placed last) (omega (arith, length_placed last, many_last, length₁, one_block)) ∙ length₁
-
-        pub room_p : Room rings₂ b 0 (ways (net adj []) layers d p)
-        room_p = record { source = omega (arith, length₂, one_block); target = omega (arith, length₂, n_is) }
 
         module _ (rings₃ : List ℕ) (r' : ℕ) (listed₃ : Listed adj touch layers d p 0 b 0 rings₂ rings₃ r') where
           source₂ : last_sets rings₂ b ≡ map kept last

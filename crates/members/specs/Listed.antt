@@ -1,5 +1,5 @@
 -- The rings of a family in order, and a buffer of places of 12 bytes, a set in each.
-use Rattle.std.specs.Prelude.{◌≡◌, List, [], ◌∷◌, ◌++◌, map, ℕ, zero, suc, ◌+◌, ◌-◌, ◌*◌, ◌/◌, ◌^◌, ◌<◌, ◌≤◌, length, get_or, take, drop}
+use Rattle.std.specs.Prelude.{◌≡◌, List, [], ◌∷◌, ◌++◌, map, ℕ, zero, suc, ◌+◌, ◌-◌, ◌*◌, ◌/◌, ◌^◌, ◌<◌, ◌≤◌, length, get_or, take, drop, Option, Some, None}
 use Rattle.std.specs.Int.Bits.{bit_and, bit_xor}
 use Rattle.bondset.specs.Bytes.{bytes_of, of_bytes}
 use Rattle.bondset.specs.Sets.{bit, members}
@@ -7,7 +7,6 @@ use Rattle.model.specs.Fold.{each}
 use Rattle.model.specs.Net.{Net, nbrs, bond}
 use Rattle.model.specs.Layer.{ways}
 use Rattle.paths.specs.Nets.{net}
-use Rattle.members.specs.declared.Written.{Written}
 
 -- The table holds the number of paths to the top of each atom of the layers 0 to d.
 pub record Tables (adj layers : List ℕ) (d : ℕ) (counts : List ℕ) : Type 0 where
@@ -47,23 +46,6 @@ over d k bs = take k d ++ (bs ++ drop (k + length bs) d)
 abbrev pub last_sets : List ℕ → ℕ → List ℕ
 last_sets rings count = places_at rings (length rings / 12 - count) count
 
--- One lent slice of words has the neighbours of 64 atoms, the bonds at them, and the layers, the top first.
-abbrev pub adj_in : List ℕ → List ℕ
-adj_in words = take 64 words
-
-abbrev pub touch_in : List ℕ → List ℕ
-touch_in words = take 128 (drop 64 words)
-
-abbrev pub layers_in : List ℕ → List ℕ
-layers_in words = drop 192 words
-
-abbrev pub net_in : List ℕ → Net
-net_in words = net (adj_in words) (touch_in words)
-
--- There are words for e layers.
-pub record Lent (words : List ℕ) (e : ℕ) : Type 0 where
-  pub deep : 192 + e ≤ length words
-
 -- The set that two words stand for.
 abbrev pub set_of : ℕ → ℕ → ℕ
 set_of lo hi = hi * 2 ^ 64 + lo
@@ -84,11 +66,11 @@ pub record Counted (adj layers rings : List ℕ) (d p q b : ℕ) : Type 0 where
   pub from_q : b ≡ ways (net adj []) layers d q
   pub places : length rings ≡ 12 * (ways (net adj []) layers d p * b)
 
--- What a call that writes sets answers: their number, and they stand from the start of the buffer on; or that there are fewer places than sets,
--- and the buffer stays as it was.
-abbrev pub Told : List ℕ → List ℕ → List ℕ → Written → Type 0
-Told sets before after (Written.All n) = (n ≡ length sets) × (length sets ≤ length before / 12) × (after ≡ over before 0 (placed sets))
-Told sets before after Written.Short = (length before / 12 < length sets) × (after ≡ before)
+-- What a call that writes sets answers: their number, and they stand from the start of the buffer on; or nothing if there are fewer places than
+-- sets, and the buffer stays as it was.
+abbrev pub Told : List ℕ → List ℕ → List ℕ → Option ℕ → Type 0
+Told sets before after (Some n) = (n ≡ length sets) × (length sets ≤ length before / 12) × (after ≡ over before 0 (placed sets))
+Told sets before after None = (length before / 12 < length sets) × (after ≡ before)
 
 -- p and q are atoms of layer d.
 pub record Ends (layers : List ℕ) (d p q : ℕ) : Type 0 where

@@ -17,6 +17,7 @@ pub mod Tables
 pub mod Items
 pub mod TraceBases
 pub mod TraceJudged
+pub mod Turns
 pub mod Trace
 pub mod NumbersCount
 pub mod NumbersTable

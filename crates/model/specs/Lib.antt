@@ -4,6 +4,7 @@ pub mod Layer
 pub mod Through
 pub mod Tables
 pub mod State
+pub mod Cross
 pub mod Loops
 pub mod Candidates
 pub mod Run

@@ -1,16 +1,17 @@
 -- The bytes of the records in an array, one record after the other.
-use mathlib.Core.Path.{◌≡◌, refl, sym, ap, ◌∙◌}
+use mathlib.Core.Path.{◌≡◌, refl, sym, ap, ap₂, ◌∙◌}
 use mathlib.Core.Bool.{Bool, true, false, cond}
 use mathlib.Core.List.{List, [], ◌∷◌, ◌++◌, append_assoc}
 use Prim.Native.Nat.{ℕ, suc, ◌+◌, ◌-◌, ◌*◌, ◌/◌, ◌<◌, ◌≤◌}
 use native.Mathlib.Omega.{arith}
 use lib.Dec.{ltb}
-use lib.ListN.{length, get_or, set, replicate, take, length-append, length-replicate}
+use lib.ListN.{length, get_or, set, replicate, take, length-append}
 use lib.Seq.{take-suc, take-length, set_at, take_at, length-take-le}
-use borrow.Author.Tests.{lt-ltb, le-ltb, ltb-false}
+use borrow.Author.Tests.{ltb-false}
+use Rattle.answers.specs.Answered.{Told, Answered}
 use Rattle.records.specs.Records.{flattened, laid, lent_bytes}
 use Rattle.records.specs.declared.Bond.{Bond}
-use Rattle.records.proofs.Handing.{handed, handed_where, length_flattened}
+use Rattle.records.proofs.Handing.{handed, handed_where, length_flattened, answered_flattened}
 
 abbrev pub no_bond : Bond
 no_bond = record { a = 0; b = 0 }
@@ -31,11 +32,6 @@ flattened_append (x ∷ xs) ys = simp (flattened_append xs ys)
 flattened_one : (bond : Bond) → flattened (bond ∷ []) ≡ bond.a ∷ bond.b ∷ []
 unfolding flattened
 flattened_one bond = refl
-
-pub length_laid : (bonds : List Bond) (k : ℕ) → k ≤ length bonds → k ≤ 96 → length (laid bonds k) ≡ 192
-length_laid bonds k within small =
-    length-append (flattened (take k bonds)) (replicate (192 - 2 * k) 0)
-    ∙ omega (arith, length_flattened (take k bonds), length-take-le k bonds within, length-replicate {A = ℕ} (192 - 2 * k) 0, small)
 
 -- A record's bytes go where the zeros begin.
 put_seam : (xs zs : List ℕ) (k : ℕ) (bond : Bond) → length xs ≡ 2 * k → put_at (xs ++ 0 ∷ 0 ∷ zs) k bond ≡ (xs ++ bond.a ∷ bond.b ∷ []) ++ zs
@@ -61,12 +57,6 @@ module _ (bonds : List Bond) (k : ℕ) (within : k < length bonds) (small : k < 
       (length_flattened (take k bonds) ∙ ap (λ (j : ℕ). 2 * j) (length-take-le k bonds (omega (arith, within))))
       ∙ ap (λ (l : List ℕ). l ++ replicate (192 - 2 * suc k) 0) (sym one_more)
 
-pub lent_bytes_many : (count : ℕ) → 96 < count → lent_bytes count ≡ 1
-lent_bytes_many count many = simp (lt-ltb 96 count many)
-
-pub lent_bytes_few : (count : ℕ) → count ≤ 96 → lent_bytes count ≡ 2 * count
-lent_bytes_few count few = simp (le-ltb 96 count few)
-
 -- How many records are copied: all, or none where there are more than 96.
 ends_where : (count : ℕ) (many : Bool) → ltb 96 count ≡ many → (cond many 1 (2 * count) / 2 ≤ count) × (cond many 1 (2 * count) / 2 ≤ 96)
 ends_where count true e = (omega arith, omega arith)
@@ -89,5 +79,11 @@ handed_where_lem bonds false e =
     long = ap (λ (l : List Bond). length (flattened l)) (take-length bonds) ∙ length_flattened bonds
 
 -- What is lent of the bytes in the end is what the byte form is to be handed.
-pub handed_copied : (bonds : List Bond) → take (lent_bytes (length bonds)) (laid bonds (lent_bytes (length bonds) / 2)) ≡ handed bonds
+handed_copied : (bonds : List Bond) → take (lent_bytes (length bonds)) (laid bonds (lent_bytes (length bonds) / 2)) ≡ handed bonds
 handed_copied bonds = handed_where_lem bonds (ltb 96 (length bonds)) refl
+
+-- What is answered of the bytes lent is answered of the records' bytes.
+pub answered_copied : {n : ℕ} (bonds : List Bond) {all rows class_rows rows' class_rows' : List ℕ} {count i : ℕ} {t : Told}
+    → count ≡ lent_bytes (length bonds) → all ≡ laid bonds (lent_bytes (length bonds) / 2)
+    → Answered n (take count all) rows class_rows i t rows' class_rows' → Answered n (flattened bonds) rows class_rows i t rows' class_rows'
+answered_copied bonds many copied = answered_flattened bonds (ap₂ (λ (k : ℕ) (l : List ℕ). take k l) many copied ∙ handed_copied bonds)

@@ -1,5 +1,5 @@
 -- The byte form answers what it is handed for the records as it would answer their bytes.
-use mathlib.Core.Path.{◌≡◌, refl, subst}
+use mathlib.Core.Path.{◌≡◌, refl}
 use mathlib.Core.Bool.{Bool, true, false}
 use mathlib.Core.List.{List, [], ◌∷◌}
 use mathlib.Core.Logic.{inl, inr}
@@ -54,10 +54,7 @@ answered_where n bonds true e a = answered_alike n (0 ∷ []) (flattened bonds) 
     more = omega (arith, ltb-true 96 (length bonds) e, length_flattened bonds)
 answered_where n bonds false e a = a
 
-pub answered_by : {n : ℕ} {bytes bytes' rows class_rows rows' class_rows' : List ℕ} {i : ℕ} {t : Told} → bytes ≡ bytes'
-    → Answered n bytes rows class_rows i t rows' class_rows' → Answered n bytes' rows class_rows i t rows' class_rows'
-answered_by {n} {rows = rows} {class_rows} {rows'} {class_rows'} {i} {t} = subst (λ b. Answered n b rows class_rows i t rows' class_rows')
-
+-- What the byte form answers of what it is handed, it answers of the records' bytes.
 pub answered_flattened : {n : ℕ} (bonds : List Bond) {bytes rows class_rows rows' class_rows' : List ℕ} {i : ℕ} {t : Told} → bytes ≡ handed bonds
     → Answered n bytes rows class_rows i t rows' class_rows' → Answered n (flattened bonds) rows class_rows i t rows' class_rows'
-answered_flattened {n} bonds e a = answered_where n bonds (ltb 96 (length bonds)) refl (answered_by e a)
+answered_flattened {n} bonds e a = answered_where n bonds (ltb 96 (length bonds)) refl (rw e at a)

@@ -1,16 +1,16 @@
 //! The engine's calls for callers that keep their bonds as records of two atom numbers: the same answer as the byte form's
 //! on the bytes of the records, one record after the other.
 //!
-//! The records are copied into an array of bytes, and the array goes to the byte form. No call asks anything of its caller.
+//! The records are copied into an array of bytes, and the byte form is lent of it what it is to read. No call asks anything of its caller.
 
 #![tactic(auto)]
 
-ghost use Rattle.std.specs.Prelude.{◌≡◌, ℕ, ◌/◌, ◌≤◌, length, take};
-ghost use Rattle.answers.specs.Answered.{refused, Answered, AnsweredFirst};
-ghost use Rattle.rings.specs.Calls.{told};
+ghost use Rattle.std.specs.Prelude.{◌≡◌, ◌/◌, ◌≤◌, length};
+ghost use Rattle.answers.specs.Answered.{Answered, AnsweredFirst};
+ghost use Rattle.rings.specs.Calls.{told, told_sized};
 ghost use Rattle.records.specs.Records.{flattened, laid, lent_bytes};
 
-use rings::{Answer, Sized};
+use rings::{Answer, Refusal, Sized};
 
 /// A bond as a record of the numbers of its two atoms; either may come first.
 #[repr(C)]
@@ -31,53 +31,15 @@ fn lent(count: usize) -> usize
 }
 
 /// The bytes of the records, and zeros after them; zeros alone where there are more than 96 records.
-pub fn copied(bonds: &[Bond]) -> [u8; 192]
+fn copied(bonds: &[Bond]) -> [u8; 192]
     ensures { result ≡ laid bonds.now (lent_bytes (length bonds.now) / 2) }
 {
-    let end = lent(bonds.len()) / 2;
     let mut all = [0u8; 192];
-    let mut k = 0;
-    while k < end {
-        let bond = bonds[k];
-        let at = 2 * k;
-        let next = at + 1;
-        all[at] = bond.a;
-        all[next] = bond.b;
-        k += 1;
+    for (k, bond) in bonds[..lent(bonds.len()) / 2].iter().enumerate() {
+        all[2 * k] = bond.a;
+        all[2 * k + 1] = bond.b;
     }
     all
-}
-
-/// The ring families of a compound of `n` atoms, from the bytes of so many records.
-pub fn families_copied(
-    n: usize,
-    count: usize,
-    all: [u8; 192],
-    family_rows: &mut [u8],
-    class_rows: &mut [u8],
-) -> Answer
-    ensures { AnsweredFirst n (take (lent_bytes count) all) family_rows.old class_rows.old (told result)
-        family_rows.new class_rows.new }
-{
-    let len = lent(count);
-    rings::families(n, &all[..len], family_rows, class_rows)
-}
-
-/// The same, and the size of the family of a row.
-pub fn family_size_copied(
-    n: usize,
-    count: usize,
-    all: [u8; 192],
-    family_rows: &mut [u8],
-    class_rows: &mut [u8],
-    row: usize,
-) -> Sized
-    ensures answered { Answered n (take (lent_bytes count) all) family_rows.old class_rows.old row (told result.answer result.size)
-        family_rows.new class_rows.new }
-    ensures silent { (number at : ℕ) → told result.answer 0 ≡ refused number at → result.size ≡ 0 }
-{
-    let end = lent(count);
-    rings::family_size(n, &all[..end], family_rows, class_rows, row)
 }
 
 /// The ring families of a compound of `n` atoms, whose bonds are lent as records.
@@ -91,7 +53,7 @@ pub fn families_of(
         family_rows.new class_rows.new }
 {
     let all = copied(bonds);
-    families_copied(n, bonds.len(), all, family_rows, class_rows)
+    rings::families(n, &all[..lent(bonds.len())], family_rows, class_rows)
 }
 
 /// The same, and the size of the family of a row.
@@ -101,11 +63,10 @@ pub fn family_size_of(
     family_rows: &mut [u8],
     class_rows: &mut [u8],
     row: usize,
-) -> Sized
-    ensures answered { Answered n (flattened bonds.now) family_rows.old class_rows.old row (told result.answer result.size)
+) -> Result<Sized, Refusal>
+    ensures { Answered n (flattened bonds.now) family_rows.old class_rows.old row (told_sized result)
         family_rows.new class_rows.new }
-    ensures silent { (number at : ℕ) → told result.answer 0 ≡ refused number at → result.size ≡ 0 }
 {
     let all = copied(bonds);
-    family_size_copied(n, bonds.len(), all, family_rows, class_rows, row)
+    rings::family_size(n, &all[..lent(bonds.len())], family_rows, class_rows, row)
 }

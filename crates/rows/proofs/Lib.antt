@@ -1,3 +1,3 @@
--- Lemmas on stores and on numbering, which belong to no one function.
-pub mod Stores
+-- Lemmas on rows and on numbering, which belong to no one function.
+pub mod Bytes
 pub mod Numbering

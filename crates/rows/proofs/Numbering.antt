@@ -8,8 +8,7 @@ use lib.ListN.{get_or, set}
 use borrow.Author.Tests.{eq-eqb, ne_eqb, lt-ltb, le-ltb}
 use Rattle.labels.specs.Labelled.{Labelled}
 use Rattle.labels.proofs.Below.{cond_both, labelled_set}
-use Rattle.rows.specs.Rows.{Numbers, open_class, more_class, numbered_in}
-use Rattle.rows.specs.Values.{put_class, numbers_of}
+use Rattle.rows.specs.Rows.{Numbers, put_class, open_class, more_class, numbers_of, numbered_in}
 
 module _ (labels holds table : List ℕ) (k i classes : ℕ) where
   pub numbered_opens : get_or labels i 0 ≡ i → (table' : List ℕ) → table' ≡ put_class table classes k 1 (get_or holds i 0 % 65536)

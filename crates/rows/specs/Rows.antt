@@ -1,7 +1,9 @@
 -- Family rows and class rows as bytes, what numbering the classes does to them, and what naming them in the family rows does.
-use Rattle.std.specs.Prelude.{cond, List, [], ◌∷◌, ℕ, ◌+◌, ◌*◌, ◌/◌, ◌%◌, eqb, ltb, length, get_or, set}
+use Rattle.std.specs.Prelude.{◌≡◌, cond, List, [], ◌∷◌, ℕ, ◌+◌, ◌-◌, ◌*◌, ◌/◌, ◌%◌, ◌≤◌, eqb, ltb, length, get_or, set}
 use Rattle.std.proofs.Math.Seq.{paste}
 use Rattle.cycles.specs.Family.{Family}
+use Rattle.model.specs.Fold.{through, count}
+use Rattle.labels.specs.Labelled.{Labelled}
 
 -- "Family row, 8 bytes: length, r, p, q, x (255 if odd), basis mark 0 or 1, class, and a byte 0."
 unfoldable pub family_bytes : Family → ℕ → ℕ → List ℕ
@@ -14,6 +16,10 @@ put_family out i f mark class = cond (ltb i (length out / 8)) (paste out (8 * i)
 -- "Class row, 5 bytes: length, relative rank, number of families low byte, high byte, essential mark 0 or 1."
 unfoldable pub class_bytes : ℕ → ℕ → ℕ → List ℕ
 class_bytes k rank families = k ∷ rank % 256 ∷ families % 256 ∷ families / 256 % 256 ∷ cond (eqb (families % 65536) 1) 1 0 ∷ []
+
+-- Class row c, if there is room for it.
+abbrev pub put_class : List ℕ → ℕ → ℕ → ℕ → ℕ → List ℕ
+put_class table c k rank families = cond (ltb c (length table / 5)) (paste table (5 * c) (class_bytes k rank families) 5) table
 
 -- The row of class c, if there is room for it: new, with so many families, or with one marked ring more and its families.
 unfoldable pub open_class : List ℕ → ℕ → ℕ → ℕ → List ℕ
@@ -31,6 +37,10 @@ pub record Numbers : Type 0 where
   pub classes : ℕ
   pub table : List ℕ
 
+-- The labels, the number of classes and the class rows.
+abbrev pub numbers_of : List ℕ → ℕ → List ℕ → Numbers
+numbers_of labels classes table = record { labels = labels; classes = classes; table = table }
+
 -- Marked ring i opens a new class if it is its own label, or joins the class of its label.
 unfoldable pub numbered_in : ℕ → List ℕ → ℕ → Numbers → Numbers
 numbered_in k holds i s =
@@ -40,6 +50,12 @@ numbered_in k holds i s =
     cond (eqb l i)
     (record { labels = set s.labels i s.classes; classes = s.classes + 1; table = open_class s.table s.classes k held })
     (record { labels = set s.labels i c; classes = s.classes; table = cond (ltb c s.classes) (more_class s.table c held) s.table })
+
+-- The classes of the marked rings from, .., to - 1 are numbered.
+pub record Numbered (k from to : ℕ) (holds labels : List ℕ) (classes : ℕ) (table labels' : List ℕ) (classes' : ℕ) (table' : List ℕ) : Type 0 where
+  pub is : numbers_of labels' classes' table' ≡ through (numbered_in k holds) (count from (to - from)) (numbers_of labels classes table)
+  pub few : classes' ≤ to
+  pub labelled : Labelled labels'
 
 -- Row i with its class in the place of the marked ring.
 unfoldable pub patched : List ℕ → ℕ → List ℕ → List ℕ

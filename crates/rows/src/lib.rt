@@ -3,16 +3,17 @@
 //! While a length is in hand a family row names a marked ring in the place of its class. At the end of the length the classes are numbered,
 //! their rows written, and the family rows patched to name them.
 //!
-//! Promises: the bytes are exactly those of the definitions in `specs/Rows.antt`. A family's numbers must fit bytes, and numbering asks for
-//! a label and a count of families of each ring that it numbers, of which there are 82 at the most.
+//! Promises: the bytes are exactly those of the definitions in `specs/Rows.antt`. A family's numbers fit bytes by its type, and numbering asks
+//! for a label and a count of families of each ring that it numbers, of which there are 82 at the most.
 
 #![tactic(auto)]
 
 ghost use Rattle.std.specs.Prelude.{◌≡◌, ◌+◌, ◌-◌, ◌*◌, ◌/◌, ◌<◌, ◌≤◌, min, length};
+ghost use Rattle.std.specs.Option.{ForSome};
+ghost use Rattle.model.specs.Cross.{cross};
 ghost use Rattle.model.specs.Fold.{through, count};
 ghost use Rattle.labels.specs.Labelled.{Labelled};
-ghost use Rattle.rows.specs.Rows.{put_family, more_class, numbered_in, patched};
-ghost use Rattle.rows.specs.Values.{Small, family_of, essential_mark, put_class, numbers_of, Numbered};
+ghost use Rattle.rows.specs.Rows.{put_family, put_class, more_class, numbers_of, numbered_in, Numbered, patched};
 
 /// A family: its length, its top atom and its atoms p, q, x.
 #[derive(Clone, Copy)]
@@ -25,66 +26,71 @@ pub struct Family {
     pub p: usize,
     /// The higher of the two.
     pub q: usize,
-    /// The atom between p and q, or 255 if the length is odd.
-    pub x: usize,
+    /// The atom between p and q, if the length is even.
+    pub x: Option<usize>,
+    // A ring has at most 64 bonds, and each number fits its byte of a row.
+    pub ghost long: { k ≤ 64 },
+    pub ghost bytes: { (r < 256) × (p < 256) × (q < 256) },
+    pub ghost middle: { ForSome x (λ x. x < 256) },
 }
 
-/// Writes family row `i`.
-pub fn put_family(out: &mut [u8], i: usize, f: Family, mark: u8, class: usize)
-    requires small { Small f }
-    requires class_bound { class < 256 }
-    ensures { out.new ≡ put_family out.old i (family_of f) mark class }
-{
-    if i < out.len() / 8 {
-        let at = 8 * i;
-        out[at] = f.k as u8;
-        out[at + 1] = f.r as u8;
-        out[at + 2] = f.p as u8;
-        out[at + 3] = f.q as u8;
-        out[at + 4] = f.x as u8;
-        out[at + 5] = mark;
-        out[at + 6] = class as u8;
-        out[at + 7] = 0;
+impl Family {
+    ghost use Rattle.rows.specs.Values.{family_of};
+
+    /// The byte that names x: 255 if the length is odd.
+    fn cross(self) -> u8
+        ensures { result ≡ cross self.x }
+    {
+        match self.x {
+            Some(x) => x as u8,
+            None => 255,
+        }
+    }
+
+    /// Writes family row `i`.
+    pub fn put_family(self, out: &mut [u8], i: usize, mark: u8, class: usize)
+        requires { class < 256 }
+        ensures { out.new ≡ put_family out.old i (family_of self) mark class }
+    {
+        if i < out.len() / 8 {
+            let row = [
+                self.k as u8,
+                self.r as u8,
+                self.p as u8,
+                self.q as u8,
+                self.cross(),
+                mark,
+                class as u8,
+                0,
+            ];
+            out[8 * i..8 * i + 8].copy_from_slice(&row);
+        }
     }
 }
 
-/// 1 for a class of one family, modulo 65536, and 0 for any other.
-fn essential(families: usize) -> u8
-    ensures { result ≡ essential_mark families }
-{
-    if families % 65536 == 1 {
-        return 1;
-    }
-    0
-}
-
-/// Writes class row `c`.
-fn put_class(table: &mut [u8], c: usize, k: usize, rank: usize, families: usize)
-    requires { k < 256 }
+/// Writes class row `c`, of so many families modulo 65536: a class of one family is essential.
+fn put_class(table: &mut [u8], c: usize, k: u8, rank: u8, families: u16)
     ensures { table.new ≡ put_class table.old c k rank families }
 {
     if c < table.len() / 5 {
-        let at = 5 * c;
-        table[at] = k as u8;
-        table[at + 1] = (rank % 256) as u8;
-        table[at + 2] = (families % 256) as u8;
-        table[at + 3] = (families / 256 % 256) as u8;
-        table[at + 4] = essential(families);
+        let [low, high] = families.to_le_bytes();
+        let row = [k, rank, low, high, u8::from(families == 1)];
+        table[5 * c..5 * c + 5].copy_from_slice(&row);
     }
 }
 
 /// Counts one marked ring more and its families into class row `c`.
-fn more_class(table: &mut [u8], c: usize, held: usize)
-    requires c_bound { c < 256 }
-    requires held_bound { held < 65536 }
+fn more_class(table: &mut [u8], c: usize, held: u16)
+    requires { c < 256 }
     ensures { table.new ≡ more_class table.old c held }
 {
     let at = 5 * c;
-    let k = bondset::byte_at(table, at) as usize;
-    let rank = bondset::byte_at(table, at + 1) as usize;
-    let low = bondset::byte_at(table, at + 2) as usize;
-    let high = bondset::byte_at(table, at + 3) as usize;
-    put_class(table, c, k, rank + 1, low + 256 * high + held);
+    let k = bondset::byte_at(table, at);
+    let rank = bondset::byte_at(table, at + 1);
+    let low = bondset::byte_at(table, at + 2);
+    let high = bondset::byte_at(table, at + 3);
+    let families = u16::from_le_bytes([low, high]).wrapping_add(held);
+    put_class(table, c, k, rank.wrapping_add(1), families);
 }
 
 /// Numbers the class of marked ring `i` of length `k`, and answers how many classes are numbered.
@@ -92,25 +98,25 @@ fn number_one(
     labels: &mut [u8],
     holds: &[u64],
     table: &mut [u8],
-    k: usize,
+    k: u8,
     i: usize,
     classes: usize,
 ) -> usize
-    requires k_bound { (k < 256) × (classes < 256) }
+    requires classes_bound { classes < 256 }
     requires i_in_bounds { (i < length labels.old) × (i < length holds.now) }
     ensures { numbers_of labels.new result table.new
         ≡ numbered_in k holds.now i (numbers_of labels.old classes table.old) }
 {
-    let l = labels[i] as usize;
-    let held = (holds[i] % 65536) as usize;
-    if l == i {
+    let label = usize::from(labels[i]);
+    let held = (holds[i] % 65536) as u16;
+    if label == i {
         labels[i] = classes as u8;
         put_class(table, classes, k, 1, held);
         return classes + 1;
     }
-    let b = bondset::byte_at(labels, l);
-    labels[i] = b;
-    let c = b as usize;
+    let class = bondset::byte_at(labels, label);
+    labels[i] = class;
+    let c = usize::from(class);
     if c < classes {
         more_class(table, c, held);
     }
@@ -123,7 +129,7 @@ fn patch_one(labels: &[u8], out: &mut [u8], i: usize)
     ensures { out.new ≡ patched labels.now i out.old }
 {
     let at = 8 * i + 6;
-    out[at] = bondset::byte_at(labels, out[at] as usize);
+    out[at] = bondset::byte_at(labels, usize::from(out[at]));
 }
 
 /// Numbers the classes of the marked rings from, .., to - 1 of length `k`, and answers how many classes are numbered.
@@ -144,7 +150,7 @@ pub fn number(
 {
     let mut c = classes;
     for i in from..to {
-        c = number_one(labels, holds, table, k, i, c);
+        c = number_one(labels, holds, table, k as u8, i, c);
     }
     c
 }
@@ -154,11 +160,7 @@ pub fn patch(labels: &[u8], out: &mut [u8], from: usize, to: usize)
     ensures { out.new
         ≡ through (patched labels.now) (count from (min to (length out.old / 8) - from)) out.old }
 {
-    let mut end = out.len() / 8;
-    if to < end {
-        end = to;
-    }
-    for i in from..end {
+    for i in from..to.min(out.len() / 8) {
         patch_one(labels, out, i);
     }
 }

@@ -1,30 +1,29 @@
 -- A search through a queue takes the steps of the model, though it never looks for the atoms at the last distance: what is bonded to an atom
 -- under the start, and not seen, is one step further.
-use mathlib.Core.Path.{◌≡◌, refl, sym, ap, ap₂, ◌∙◌, subst}
+use mathlib.Core.Path.{◌≡◌, sym, ap, ap₂, ◌∙◌}
 use mathlib.Core.Logic.{inl, inr, ◌↔◌}
 use mathlib.Core.List.{List, [], ◌∷◌}
 use Prim.Native.Nat.{ℕ, zero, suc, ◌+◌, ◌-◌, ◌^◌, ◌≤◌, ◌<◌}
-use native.Mathlib.Nat.{mod_self}
+use native.Mathlib.Nat.{mod_self, lt_of_lt_of_le}
 use native.Mathlib.Omega.{arith}
 use native.Mathlib.Decide.{ℕ_discrete}
-use lib.Bits.{bit_and, bit_or, and_le_l, and_mask, and_zero_l, and_zero_r, or_zero_l}
+use lib.Bits.{bit_and, bit_or, and_mask, and_zero_l, and_zero_r, or_zero_l}
 use lib.Count.{count_trailing_zeros}
-use lib.ListN.{length, set, replicate}
-use lib.Pow.{pow_pos, pow-lt}
-use Rattle.spans.specs.Elements.{◌∈◌}
-use Rattle.bondset.specs.Sets.{bit, members}
+use lib.Pow.{pow_pos, pow-lt, pow_mono}
+use Rattle.bondset.specs.Sets.{bit, members, length_to}
 use Rattle.bondset.proofs.Laws.{bit_lt, zero_bit, ext, trailing}
+use lib.ListN.{length}
 use Rattle.bondset.proofs.Members.{length_to_members, members_step, members_zero, mem_of_bit, bit_of_mem, lt_of_mem}
 use Rattle.model.specs.Fold.{through}
 use Rattle.model.specs.Net.{Net, nbrs, near}
 use Rattle.model.specs.Layer.{Wave, spread, wave, layer}
 use Rattle.model.proofs.NetBits.{and_has, pow_has, without_has}
-use Rattle.model.proofs.NetNear.{gather, gather_has, gather_takes, new_of, near_small}
+use Rattle.model.proofs.NetNear.{gather, gather_has, gather_takes, new_of}
 use Rattle.search.specs.declared.Search.{Search}
-use Rattle.search.specs.Queue.{Appended, beside}
+use Rattle.search.specs.Queue.{queued, Appended, beside}
 use Rattle.search.specs.Search.{Ready, Layering, Goes}
-use Rattle.search.proofs.Waves.{or_without, near_none}
-use Rattle.search.proofs.Queues.{length_seen, queued_new}
+use Rattle.search.proofs.Waves.{lt_two_pow, or_without, near_none}
+use Rattle.search.proofs.Queues.{length_seen, new_room, queued_new}
 
 bit_same : (s t k : ℕ) → (bit s k ≡ 1 → bit t k ≡ 1) → (bit t k ≡ 1 → bit s k ≡ 1) → bit s k ≡ bit t k
 bit_same s t k to from = go (ℕ_discrete (bit s k) 1) (ℕ_discrete (bit t k) 1)
@@ -34,11 +33,21 @@ bit_same s t k to from = go (ℕ_discrete (bit s k) 1) (ℕ_discrete (bit t k) 1
     go (no ne) (yes f) = absurd (ne (from f))
     go (no ne) (no nf) = omega (arith, bit_lt s k, bit_lt t k)
 
+-- Sets with the same members are one.
+same_members : (s t : ℕ) → ((k : ℕ) → bit s k ≡ bit t k) → s ≡ t
+same_members s t same =
+    ext (s + t) s t
+    (lt_of_lt_of_le (lt_two_pow s) (pow_mono {i = s} {j = s + t} (omega arith)))
+    (lt_of_lt_of_le (lt_two_pow t) (pow_mono {i = t} {j = s + t} (omega arith))) (λ k l. same k)
+
 -- ---- the atoms under the start, one step further
 
 -- What is left of a set without the atoms of another.
 abbrev without : ℕ → ℕ → ℕ
 without s t = s - bit_and s t
+
+without_bit : (s t k : ℕ) → (bit (without s t) k ≡ 1) ↔ ((bit s k ≡ 1) × (bit t k ≡ 1 → ⊥))
+without_bit s t k = without_has s s t k (lt_two_pow s)
 
 -- Larger sets have more neighbours.
 near_more : (G : Net) (s t : ℕ) → ((a : ℕ) → bit s a ≡ 1 → bit t a ≡ 1) → (k : ℕ) → bit (near G s) k ≡ 1 → bit (near G t) k ≡ 1
@@ -48,7 +57,7 @@ near_more G s t within k e = elim (gather_has G (members 64 s) 0 k e) [
   | inr p ↦ gather_takes G 0 k p.0 (mem_of_bit 64 t p.0 (lt_of_mem 64 s p.0 p.1) (within p.0 (bit_of_mem 64 s p.0 p.1))) p.2
 ]
 
-module _ (G : Net) (small : (a : ℕ) → nbrs G a < 2 ^ 64) (pre : ℕ) where
+module _ (G : Net) (pre : ℕ) where
   module _ (w : Wave) where
     abbrev beneath : ℕ
     beneath = near G w.under
@@ -59,35 +68,24 @@ module _ (G : Net) (small : (a : ℕ) → nbrs G a < 2 ^ 64) (pre : ℕ) where
     abbrev new : ℕ
     new = new_of G w.seen w.front
 
-    below_small : below < 2 ^ 64
-    below_small = omega (arith, and_le_l beneath pre, near_small G 64 small w.under)
-
-    below_has : (k : ℕ) → (bit (without below w.seen) k ≡ 1) ↔ ((bit below k ≡ 1) × (bit w.seen k ≡ 1 → ⊥))
-    below_has k = without_has 64 below w.seen k below_small
-
-    new_has : (k : ℕ) → (bit new k ≡ 1) ↔ ((bit (near G w.front) k ≡ 1) × (bit w.seen k ≡ 1 → ⊥))
-    new_has k = without_has 64 (near G w.front) w.seen k (near_small G 64 small w.front)
-
     -- The atoms under the start are among those at their distance, so what they reach that is not seen is at the next.
     under_next : ((a : ℕ) → bit w.under a ≡ 1 → bit w.front a ≡ 1) → without below w.seen ≡ (spread G pre w).under
     unfolding spread
-    under_next within = ext 64 (without below w.seen) (bit_and (bit_and new beneath) pre) (omega (arith, below_small)) small_all (λ k l. bit_same _ _ k (to k) (from k))
+    under_next within = same_members (without below w.seen) (bit_and (bit_and new beneath) pre) (λ k. bit_same _ _ k (to k) (from k))
       where
-        small_all : bit_and (bit_and new beneath) pre < 2 ^ 64
-        small_all = omega (arith, and_le_l (bit_and new beneath) pre, and_le_l new beneath, near_small G 64 small w.front)
-
         to : (k : ℕ) → bit (without below w.seen) k ≡ 1 → bit (bit_and (bit_and new beneath) pre) k ≡ 1
         to k e =
-            let left = (below_has k).0 e in
+            let left = (without_bit below w.seen k).0 e in
             let both = (and_has beneath pre k).0 left.0 in
             (and_has (bit_and new beneath) pre k).1
-            ((and_has new beneath k).1 ((new_has k).1 (near_more G w.under w.front within k both.0, left.1), both.0), both.1)
+            ((and_has new beneath k).1 ((without_bit (near G w.front) w.seen k).1 (near_more G w.under w.front within k both.0, left.1), both.0), both.1)
 
         from : (k : ℕ) → bit (bit_and (bit_and new beneath) pre) k ≡ 1 → bit (without below w.seen) k ≡ 1
         from k e =
             let outer = (and_has (bit_and new beneath) pre k).0 e in
             let inner = (and_has new beneath k).0 outer.0 in
-            (below_has k).1 ((and_has beneath pre k).1 (inner.1, outer.1), ((new_has k).0 inner.0).1)
+            (without_bit below w.seen k).1
+            ((and_has beneath pre k).1 (inner.1, outer.1), ((without_bit (near G w.front) w.seen k).0 inner.0).1)
 
   under_front : (r d a : ℕ) → bit (wave G pre r d).under a ≡ 1 → bit (wave G pre r d).front a ≡ 1
   unfolding wave spread
@@ -105,9 +103,9 @@ module _ (G : Net) (small : (a : ℕ) → nbrs G a < 2 ^ 64) (pre : ℕ) where
 -- ---- from distance to distance
 
 -- Beyond a distance with nothing under the start nothing is under it.
-pub goes_none : (G : Net) (pre : ℕ) (q : List ℕ) (s : Search) → s.under ≡ 0 → Goes G pre q s q s
+pub goes_none : (G : Net) (pre : ℕ) (s : Search) → s.under ≡ 0 → Goes G pre s s
 unfolding layer wave spread
-goes_none G pre q s e r d layering =
+goes_none G pre s e r d layering =
     let w = wave G pre r (suc d) in
     let none : near G w.under ≡ 0 = ap (near G) (sym layering.under ∙ e) ∙ near_none G in
     let front = new_of G w.seen w.front in
@@ -118,19 +116,15 @@ goes_none G pre q s e r d layering =
       front = λ pos. absurd (omega arith);
     }
 
--- One step: `reach` are the neighbours of the atoms at the last distance, and `nearby` those of the atoms under the start.
-module _ (G : Net) (small : (a : ℕ) → nbrs G a < 2 ^ 64) (pre : ℕ) (q : List ℕ) (s : Search) (pos : 0 < s.under)
-    (ready : Ready q s) (room : s.end ≤ length q) (reach : ℕ) (reaches : reach ≡ beside G q s.from s.end) where
-  abbrev found : ℕ
-  found = without reach s.seen
-
+-- One step, in which these atoms are found.
+module _ (G : Net) (pre : ℕ) (s : Search) (pos : 0 < s.under) (ready : Ready s) (found : ℕ) (found_is : found ≡ without (beside G s.queue) s.seen) where
   abbrev seen' : ℕ
   seen' = bit_or s.seen found
 
-  module _ (r d : ℕ) (layering : Layering G pre r d q s) where
+  module _ (r d : ℕ) (layering : Layering G pre r d s) where
     found_new : found ≡ new_of G (wave G pre r d).seen (wave G pre r d).front
     unfolding near beside
-    found_new = ap₂ without (reaches ∙ ap (λ (l : List ℕ). through (gather G) l 0) (layering.front pos)) (layering.seen pos)
+    found_new = found_is ∙ ap₂ (λ (l : List ℕ) (x : ℕ). without (through (gather G) l 0) x) (layering.front pos) (layering.seen pos)
 
     found_front : found ≡ (wave G pre r (suc d)).front
     unfolding wave spread
@@ -138,20 +132,25 @@ module _ (G : Net) (small : (a : ℕ) → nbrs G a < 2 ^ 64) (pre : ℕ) (q : Li
 
     seen_next : seen' ≡ (wave G pre r (suc d)).seen
     unfolding wave spread
-    seen_next = or_without s.seen reach ∙ ap₂ (λ (x y : ℕ). x + y) (layering.seen pos) found_new
+    seen_next =
+        ap (bit_or s.seen) found_is ∙ or_without s.seen (beside G s.queue)
+        ∙ ap₂ (λ (x y : ℕ). x + y) (layering.seen pos) (sym found_is ∙ found_new)
 
-  pub goes_further : (q' : List ℕ) (end' : ℕ) → Appended q s.end found q' end' → (nearby : ℕ) → nearby ≡ near G s.under
-      → Goes G pre q s q' (record { seen = seen'; under = without (bit_and nearby pre) seen'; from = s.end; end = end' })
-  goes_further q' end' appended nearby nearby_is r d layering = record {
+  -- What is found is counted beside the atoms seen, and there is room for it.
+  found_count : length_to 64 seen' ≡ s.queue.end + length_to 64 found
+  found_count = rw found_is (length_seen s.seen (beside G s.queue) s.queue.end ready)
+
+  pub found_room : s.queue.end + length_to 64 found ≤ 64
+  found_room = rw found_is (new_room s.seen (beside G s.queue) s.queue.end ready)
+
+  pub goes_further : (s' : Search) → s'.seen ≡ seen' → Appended s.queue found s'.queue → s'.under ≡ without (bit_and (near G s.under) pre) seen' → Goes G pre s s'
+  goes_further s' seen_is appended under_is r d layering = record {
     under =
-        ap₂ (λ (x y : ℕ). without (bit_and x pre) y) (nearby_is ∙ ap (near G) layering.under) (seen_next r d layering)
-        ∙ layer_next G small pre r (suc d);
-    seen = λ more. seen_next r d layering;
-    ready = λ more. record {
-      count = appended.count ∙ sym (length_seen s.seen reach s.end ready.count);
-      named = λ t m. lt_of_mem 64 found t (subst (λ (l : List ℕ). t ∈ l) (queued_new room appended) m);
-    };
-    front = λ more. queued_new room appended ∙ ap (members 64) (found_front r d layering);
+        under_is ∙ ap₂ (λ (x y : ℕ). without (bit_and (near G x) pre) y) layering.under (seen_next r d layering)
+        ∙ layer_next G pre r (suc d);
+    seen = λ more. seen_is ∙ seen_next r d layering;
+    ready = λ more. appended.count ∙ sym found_count ∙ ap (length_to 64) (sym seen_is);
+    front = λ more. queued_new s.queue found s'.queue appended ∙ ap (members 64) (found_front r d layering);
   }
 
 -- ---- the start
@@ -167,22 +166,21 @@ unfolding near through
 near_single G r h = ap (λ (l : List ℕ). through (gather G) l 0) (members_single r h) ∙ or_zero_l (nbrs G r)
 
 -- Layer 1, from the neighbours of r.
-pub first_layer : (G : Net) → ((a : ℕ) → nbrs G a < 2 ^ 64) → (pre r : ℕ) → r < 64
+pub first_layer : (G : Net) (pre r : ℕ) → r < 64
     → bit_and (nbrs G r) pre - bit_and (bit_and (nbrs G r) pre) (2 ^ r) ≡ layer G pre r 1
 unfolding layer wave
-first_layer G small pre r h =
-    ap (λ (x : ℕ). without (bit_and x pre) (2 ^ r)) (sym (near_single G r h)) ∙ layer_next G small pre r 0
+first_layer G pre r h =
+    ap (λ (x : ℕ). without (bit_and x pre) (2 ^ r)) (sym (near_single G r h)) ∙ layer_next G pre r 0
 
 -- The search from r before its first step.
-pub layering_start : (G : Net) → ((a : ℕ) → nbrs G a < 2 ^ 64) → (pre r : ℕ) → r < 64
-    → Layering G pre r 0 (set (replicate 64 0) 0 r) (record { seen = 2 ^ r; under = bit_and (nbrs G r) pre - bit_and (bit_and (nbrs G r) pre) (2 ^ r); from = 0; end = 1 })
+pub layering_start : (G : Net) (pre r : ℕ) → r < 64 → (start : ℕ) → start ≡ 2 ^ r
+    → (s : Search) → s.seen ≡ start → s.under ≡ without (bit_and (nbrs G r) pre) start → s.queue.end ≡ 1 → queued s.queue ≡ r ∷ [] → Layering G pre r 0 s
 unfolding wave
-layering_start G small pre r h = record {
-  under = first_layer G small pre r h;
-  seen = λ pos. refl;
-  ready = λ pos. record {
-    count = sym (length_to_members 64 (2 ^ r) ∙ ap length (members_single r h));
-    named = λ t m. lt_of_mem 64 (2 ^ r) t (subst (λ (l : List ℕ). t ∈ l) (sym (members_single r h)) m);
-  };
-  front = λ pos. sym (members_single r h);
-}
+layering_start G pre r h start is s seen_is under_is ends alone =
+    let single : members 64 s.seen ≡ r ∷ [] = ap (members 64) (seen_is ∙ is) ∙ members_single r h in
+    record {
+      under = under_is ∙ ap (without (bit_and (nbrs G r) pre)) is ∙ first_layer G pre r h;
+      seen = λ pos. seen_is ∙ is;
+      ready = λ pos. ends ∙ sym (length_to_members 64 s.seen ∙ ap length single);
+      front = λ pos. alone ∙ sym (members_single r h);
+    }

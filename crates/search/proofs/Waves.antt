@@ -4,7 +4,8 @@ use mathlib.Core.Logic.{⊎_elim}
 use Prim.Native.Nat.{ℕ, zero, suc, ◌+◌, ◌-◌, ◌^◌, ◌≤◌, ◌<◌}
 use native.Mathlib.Nat.{pow-suc}
 use native.Mathlib.Omega.{arith}
-use lib.Bits.{bit_and, bit_or, and_le_l, or_disjoint}
+use lib.Bits.{bit_and, bit_or, and_le_l, and_comm, or_disjoint}
+use Rattle.std.proofs.lemmas.Nat.{and-not}
 use Rattle.bondset.proofs.Laws.{lt_or_ge}
 use Rattle.bondset.proofs.Members.{members_zero}
 use Rattle.model.specs.Fold.{through}
@@ -12,9 +13,14 @@ use Rattle.model.specs.Net.{Net, near}
 use Rattle.model.specs.Layer.{Wave, spread, wave}
 use Rattle.model.proofs.NetBits.{and_has, without_has, zero_of_none}
 
-lt_two_pow : (n : ℕ) → n < 2 ^ n
+-- A number is below the power of two that it names.
+pub lt_two_pow : (n : ℕ) → n < 2 ^ n
 lt_two_pow zero = omega arith
 lt_two_pow (suc n) = omega (arith, lt_two_pow n, pow-suc 2 n)
+
+-- The atoms of x that are not in s.
+pub and_not : (x s : ℕ) → x < 2 ^ 64 → s < 2 ^ 64 → bit_and x (2 ^ 64 - 1 - s) ≡ x - bit_and x s
+and_not x s small small' = omega (arith, and-not 64 s x small' small, and_comm x (2 ^ 64 - 1 - s), and_comm x s)
 
 -- What x adds to a set s is apart from it.
 pub and_without : (s x : ℕ) → bit_and s (x - bit_and x s) ≡ 0

@@ -12,6 +12,8 @@ ghost use Rattle.search.specs.Search.{Ready, Goes};
 
 mod queue;
 
+use queue::Queue;
+
 /// The atoms that a search from atom 0 sees within `n` steps.
 fn reached(n: usize, adj: &[u64]) -> u64
     requires { 64 ≤ length adj.now }
@@ -19,12 +21,11 @@ fn reached(n: usize, adj: &[u64]) -> u64
 {
     let mut seen: u64 = 1;
     let mut front: u64 = 1;
-    for d in 0..n {
+    for _ in 0..n {
         if front == 0 {
             return seen;
         }
-        let reach = atoms::near(adj, front);
-        front = reach - (reach & seen);
+        front = atoms::near(adj, front) & !seen;
         seen |= front;
     }
     seen
@@ -37,44 +38,35 @@ pub fn in_one_piece(n: usize, adj: &[u64]) -> bool
     requires in_bounds { 64 ≤ length adj.now }
     ensures { result ≡ eqb (wave (neighbours adj.now) 0 0 n).seen (2 ^ n - 1) }
 {
-    let last = 1u64 << (n - 1);
-    reached(n, adj) == last - 1 + last
+    let all = u64::MAX >> (64 - n);
+    reached(n, adj) == all
 }
 
-/// A search under way, at some distance from its start: its sets, and where the atoms at that distance stand in the queue.
-#[derive(Clone, Copy)]
-pub struct Search {
+/// A search under way, at some distance from its start.
+#[derive(Drop)]
+struct Search {
     /// All atoms up to that distance.
-    pub seen: u64,
+    seen: u64,
     /// The atoms one step further that are under the start.
-    pub under: u64,
-    /// Where the atoms at that distance begin in the queue.
-    pub from: usize,
-    /// Where they end, and the queue with them.
-    pub end: usize,
+    under: u64,
+    /// The atoms seen, those at that distance last.
+    queue: Queue,
 }
 
-/// One distance further, through the queue; beyond a distance with no atom under the start there is none, and nothing is done.
-fn next(adj: &[u64], pre: u64, queue: &mut [u8], s: Search) -> Search
-    requires adj_in_bounds { 64 ≤ length adj.now }
-    requires queue_in_bounds { 64 ≤ length queue.old }
-    requires ready { 0 < s.under → Ready queue.old s }
-    ensures { Goes (neighbours adj.now) pre queue.old s queue.new result }
-{
-    if s.under == 0 {
-        return s;
-    }
-    let from = s.end;
-    let reach = queue::beside(adj, queue, s.from, from);
-    let new = reach - (reach & s.seen);
-    let seen = s.seen | new;
-    let end = queue::append(queue, from, new);
-    let below = atoms::near(adj, s.under) & pre;
-    Search {
-        seen,
-        under: below - (below & seen),
-        from,
-        end,
+impl Search {
+    /// One distance further; beyond a distance with no atom under the start there is none, and nothing is done.
+    fn next(&mut self, adj: &[u64], pre: u64)
+        requires in_bounds { 64 ≤ length adj.now }
+        requires ready { 0 < self.old.under → Ready self.old }
+        ensures { Goes (neighbours adj.now) pre self.old self.new }
+    {
+        if self.under == 0 {
+            return;
+        }
+        let new = self.queue.beside(adj) & !self.seen;
+        self.seen |= new;
+        self.under = atoms::near(adj, self.under) & pre & !self.seen;
+        self.queue.append(new);
     }
 }
 
@@ -91,19 +83,15 @@ pub fn layers(adj: &[u64], pre: u64, r: usize, depth: usize, layers: &mut [u64])
     if depth == 0 {
         return;
     }
-    let below = adj[r] & pre;
-    let under = below - (below & start);
+    let under = adj[r] & pre & !start;
     layers[1] = under;
-    let mut queue = [0u8; 64];
-    queue[0] = r as u8;
-    let mut s = Search {
+    let mut search = Search {
         seen: start,
         under,
-        from: 0,
-        end: 1,
+        queue: Queue::of(r),
     };
-    for d in 0..depth - 1 {
-        s = next(adj, pre, &mut queue, s);
-        layers[d + 2] = s.under;
+    for d in 1..depth {
+        search.next(adj, pre);
+        layers[d + 1] = search.under;
     }
 }

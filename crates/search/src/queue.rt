@@ -1,34 +1,65 @@
 //! A queue of atoms, distance after distance, as a search finds them.
-ghost use Rattle.std.specs.Prelude.{◌+◌, ◌≤◌, ◌≡◌, length};
+ghost use Rattle.std.specs.Prelude.{◌≡◌, ◌+◌, ◌≤◌, ◌<◌, ℕ, [], ◌∷◌, length, slice_index};
 ghost use Rattle.bondset.specs.Sets.{length_to};
 ghost use Rattle.atoms.specs.Nets.{neighbours};
-ghost use Rattle.search.specs.Queue.{Appended, Named, beside};
 
-/// Appends the atoms of the set to the queue, and gives its new end.
-pub fn append(queue: &mut [u8], end: usize, s: u64) -> usize
-    requires { end + length_to 64 s ≤ length queue.old }
-    ensures { Appended queue.old end s queue.new result }
-{
-    let mut at = end;
-    let mut x = s;
-    while x != 0 {
-        queue[at] = atoms::lowest(x) as u8;
-        at += 1;
-        x = atoms::others(x);
-    }
-    at
+/// The atoms that a search has found, in the order in which it found them.
+#[derive(Drop)]
+pub struct Queue {
+    /// The atoms, and room for all others.
+    atoms: [u8; 64],
+    /// Where the atoms at the last distance begin.
+    from: usize,
+    /// Where they end, and the queue with them.
+    end: usize,
+    ghost in_order: { from ≤ end },
+    ghost long: { length atoms ≡ 64 },
+    ghost room: { end ≤ 64 },
+    ghost named: { (i : ℕ) → slice_index atoms i < 64 },
 }
 
-/// All neighbours of the atoms that stand in the queue from place `from` on, before place `end`.
-pub fn beside(adj: &[u64], queue: &[u8], from: usize, end: usize) -> u64
-    requires in_bounds { 64 ≤ length adj.now }
-    requires end_in_bounds { end ≤ length queue.now }
-    requires named { Named queue.now from end }
-    ensures { result ≡ beside (neighbours adj.now) queue.now from end }
-{
-    let mut all: u64 = 0;
-    for i in from..end {
-        all |= adj[queue[i] as usize];
+impl Queue {
+    ghost use Rattle.search.specs.Queue.{queued, Appended, beside};
+
+    /// The queue of a search that stands at its start: `r` alone.
+    pub fn of(r: usize) -> Queue
+        requires { r < 64 }
+        ensures ends { result.end ≡ 1 }
+        ensures alone { queued result ≡ r ∷ [] }
+    {
+        let mut atoms = [0; 64];
+        atoms[0] = r as u8;
+        Queue {
+            atoms,
+            from: 0,
+            end: 1,
+        }
     }
-    all
+
+    /// Appends the atoms of the set, as those of the next distance.
+    pub fn append(&mut self, s: u64)
+        requires { self.old.end + length_to 64 s ≤ 64 }
+        ensures { Appended self.old s self.new }
+    {
+        // A local, as the compiler would write and read a field again beside each store into the array.
+        let mut end = self.end;
+        for t in atoms::each(s) {
+            self.atoms[end] = t as u8;
+            end += 1;
+        }
+        self.from = self.end;
+        self.end = end;
+    }
+
+    /// All neighbours of the atoms at the last distance.
+    pub fn beside(&self, adj: &[u64]) -> u64
+        requires { 64 ≤ length adj.now }
+        ensures { result ≡ beside (neighbours adj.now) self.now }
+    {
+        let mut all: u64 = 0;
+        for &a in &self.atoms[self.from..self.end] {
+            all |= adj[usize::from(a)];
+        }
+        all
+    }
 }

@@ -1,29 +1,21 @@
-use native.Mathlib.Omega.{arith}
-use Rattle.bondset.proofs.Laws.{pos_of_ne}
-use Rattle.bondset.proofs.Members.{and_pred_lt}
+use Rattle.std.proofs.Common.{arith, rules, refl}
+use Rattle.bondset.proofs.Members.{first_lt}
 use Rattle.model.specs.Net.{near}
-use Rattle.atoms.proofs.Loops.{over_start, over_lowest, over_next, over_end}
+use Rattle.model.proofs.Turns.{left_next, left_none}
 use Rattle.atoms.proofs.near.Goals as goal
 
-pub loop-x-init : goal.loop-x-init
-loop-x-init c = over_start _ c.args.s 0 c.ranges.s.fits
+pub loop-a-init : goal.loop-a-init
+unfolding near
+loop-a-init c = (search rules, search rules, record { same = rw (c.into_iter-a-iterator.ensures.into_iter_gives, c.each-a-items.ensures) refl })
 
-pub offset_bounds-adj-lowest : goal.offset_bounds-adj-lowest
-offset_bounds-adj-lowest c = omega (arith, over_lowest _ (pos_of_ne _ c.loop-x-test.true) c.loop-x.invariant, c.lowest.ensures)
+pub offset_bounds-adj-a : goal.offset_bounds-adj-a
+offset_bounds-adj-a c = omega (arith, first_lt 64 _ _ _ c.in-Some.ensures.steps)
 
-pub bounds-adj-lowest : goal.bounds-adj-lowest
-bounds-adj-lowest c = omega (arith, over_lowest _ (pos_of_ne _ c.loop-x-test.true) c.loop-x.invariant, c.lowest.ensures)
+pub bounds-adj-a : goal.bounds-adj-a
+bounds-adj-a c = omega (arith, first_lt 64 _ _ _ c.in-Some.ensures.steps)
 
-pub loop-x-smaller : goal.loop-x-smaller
-loop-x-smaller c =
-    let x = c.loop-x.x in
-    omega (arith, and_pred_lt x (pos_of_ne x c.loop-x-test.true), c.others-x.ensures)
-
-pub loop-x-preserved : goal.loop-x-preserved
-loop-x-preserved c =
-    rw (c.others-x.ensures, c.lowest.ensures)
-    (over_next _ (pos_of_ne c.loop-x.x c.loop-x-test.true) c.loop-x.invariant)
+pub loop-a-preserved : goal.loop-a-preserved
+loop-a-preserved c = (search rules, search rules, left_next _ c.in-Some.ensures.steps refl c.loop-a.invariant.2)
 
 pub returns : goal.returns
-unfolding near
-returns c = over_end _ c.loop-x-test.false c.loop-x.invariant
+returns c = left_none _ c.in-None.ensures.steps.0 c.loop-a.invariant.2

@@ -1,7 +1,6 @@
 use mathlib.Core.Path.{refl}
 use native.Mathlib.Omega.{arith}
 use lib.ListN.{length-set}
-use borrow.Author.Rules.{rules}
 use Rattle.bondset.specs.Sets.{value}
 use Rattle.bondset.proofs.Rows.{put_words}
 use Rattle.bondset.proofs.put_row.Goals as goal

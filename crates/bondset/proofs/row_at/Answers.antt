@@ -1,5 +1,4 @@
 use mathlib.Core.Path.{refl}
-use borrow.Author.Rules.{rules}
 use Rattle.bondset.specs.Rows.{row_at}
 use Rattle.bondset.proofs.row_at.Goals as goal
 

@@ -1,34 +1,17 @@
--- The sum, or the largest word if the sum does not fit, by a division of what is left.
-use Prim.Native.Nat.{◌-◌, ◌^◌}
-use native.Mathlib.Omega.{arith}
-use Rattle.counting.proofs.Added.{added_over, added_nothing, added_past, product_fits, added_fits}
+-- The product does not fit, there was no count before, or the sum says what becomes of it.
+use Rattle.std.proofs.Common.{◌^◌, ◌-◌, arith, ◌∙◌}
+use Rattle.counting.specs.Counts.{added}
+use Rattle.counting.proofs.Added.{added_past, added_some}
 use Rattle.counting.proofs.add.Goals as goal
 
-pub returns-then-count-ne0 : goal.returns-then-count-ne0
-returns-then-count-ne0 c = added_over _ _ _ c.if-count-ne0.true
+pub returns-in_err-size : goal.returns-in_err-size
+returns-in_err-size c = c.from_residual.ensures ∙ added_past _ _ _ (omega (arith, c.in_err-size.ensures))
 
-pub returns-then-a-eq0 : goal.returns-then-a-eq0
-returns-then-a-eq0 c =
-    let a = c.args in
-    added_nothing (2 ^ 64 - 1) a.count a.a a.b (omega arith) c.if-count-ne0.false c.if-a-eq0.true
-
-pub returns-then-count-a : goal.returns-then-count-a
-returns-then-count-a c =
-    let a = c.args in
-    added_past (2 ^ 64 - 1) a.count a.a a.b (omega arith) c.if-a-eq0.false c.if-count-a.true
-
-pub overflow_mul-result : goal.overflow_mul-result
-overflow_mul-result c =
-    let a = c.args in
-    omega (arith, product_fits (2 ^ 64 - 1) a.count a.a a.b (omega arith) c.if-a-eq0.false c.if-count-a.false)
-
-pub overflow_add-result : goal.overflow_add-result
-overflow_add-result c =
-    let a = c.args in
-    omega (arith, product_fits (2 ^ 64 - 1) a.count a.a a.b (omega arith) c.if-a-eq0.false c.if-count-a.false)
+pub returns-in_err-count : goal.returns-in_err-count
+unfolding added
+returns-in_err-count c = rw c.in_err-count.was c.from_residual-in_err-count.ensures
 
 pub returns : goal.returns
 returns c =
-    let a = c.args in
-    added_fits (2 ^ 64 - 1) a.count a.a a.b (omega arith) c.if-count-ne0.false c.if-a-eq0.false
-    c.if-count-a.false
+    let size = c.in_ok-size.ensures.1 in
+    rw c.in_ok-count.was (added_some (2 ^ 64 - 1) _ _ _ (rw size at c.checked_add.ensures))

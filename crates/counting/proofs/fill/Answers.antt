@@ -1,45 +1,42 @@
-use mathlib.Core.Path.{refl}
-use native.Mathlib.Omega.{arith}
-use borrow.Author.Rules.{rules}
-use Rattle.bondset.proofs.Laws.{pos_of_ne}
-use Rattle.bondset.proofs.Members.{and_pred_lt}
-use Rattle.counting.proofs.Tables.{low_lt, low_in, filling_start, filling_more, filling_end, others_more}
+use Rattle.std.proofs.Common.{refl, arith, rules}
+use Rattle.bondset.proofs.Members.{first_lt}
+use Rattle.counting.proofs.Tables.{filling_start, filling_in, filling_next, filling_end, others_next}
 use Rattle.counting.proofs.fill.Goals as goal
 
-pub loop-rest-init : goal.loop-rest-init
-loop-rest-init c =
-    let a = c.args in
-    (search rules, filling_start a.adj.now a.layers.now a.e c.requires.disjoint a.counts.now c.requires.table, record { stay = λ t z. refl })
+pub loop-t-init : goal.loop-t-init
+loop-t-init c =
+    rw (c.into_iter-t-iterator.ensures.into_iter_gives, c.each-t-items.ensures)
+    (search rules, search rules, filling_start c.requires.disjoint c.requires.table, record { stay = λ t z. refl })
 
-pub total-sum-requires-clause-t_bound : goal.total-sum-requires-clause-t_bound
-total-sum-requires-clause-t_bound c = low_lt c.loop-rest.rest (pos_of_ne _ c.loop-rest-test.true) c.loop-rest.invariant.1.word
-
-pub total-sum-requires-clause-t_value : goal.total-sum-requires-clause-t_value
-total-sum-requires-clause-t_value c =
-    let b = c.loop-rest in
-    b.invariant.1.inside _ (low_in b.rest (pos_of_ne _ c.loop-rest-test.true) b.invariant.1.word)
+pub total-requires : goal.total-requires
+total-requires c =
+    let l = c.loop-t.invariant.2 in
+    record {
+      t_bound = first_lt 64 _ _ _ c.in-Some.ensures.steps;
+      t_value = filling_in c.requires.disjoint l c.in-Some.ensures.steps;
+      sized = record { atoms = c.requires.sized.atoms; deep = c.requires.sized.deep; room = omega (arith, c.requires.sized.room) };
+      disjoint = c.requires.disjoint;
+      table = l.table;
+    }
 
 pub offset_bounds-counts-t : goal.offset_bounds-counts-t
-offset_bounds-counts-t c = omega (arith, low_lt c.loop-rest.rest (pos_of_ne _ c.loop-rest-test.true) c.loop-rest.invariant.1.word)
+offset_bounds-counts-t c = omega (arith, first_lt 64 _ _ _ c.in-Some.ensures.steps)
 
 pub bounds-counts-t : goal.bounds-counts-t
-bounds-counts-t c = omega (arith, low_lt c.loop-rest.rest (pos_of_ne _ c.loop-rest-test.true) c.loop-rest.invariant.1.word)
+bounds-counts-t c = omega (arith, first_lt 64 _ _ _ c.in-Some.ensures.steps)
 
-pub loop-rest-smaller : goal.loop-rest-smaller
-loop-rest-smaller c = and_pred_lt c.loop-rest.rest (pos_of_ne _ c.loop-rest-test.true)
-
-pub loop-rest-preserved : goal.loop-rest-preserved
-loop-rest-preserved c =
-    let b = c.loop-rest in
-    let a = c.args in (
+pub loop-t-preserved : goal.loop-t-preserved
+loop-t-preserved c =
+    let l = c.loop-t.invariant in
+    let more = c.in-Some.ensures.steps in (
       search rules,
-      filling_more a.adj.now a.layers.now a.e c.requires.disjoint b.rest b.counts _ (omega arith) b.invariant.1
-          (pos_of_ne _ c.loop-rest-test.true) c.total-sum.ensures,
-      others_more a.adj.now a.layers.now a.e c.requires.disjoint b.rest b.counts _ b.invariant.1 (pos_of_ne _ c.loop-rest-test.true) b.invariant.2,
+      search rules,
+      filling_next c.requires.disjoint l.2 more (omega (arith, first_lt 64 _ _ _ more)) c.total.ensures,
+      others_next c.requires.disjoint l.2 more _ l.3,
     )
 
 pub returns : goal.returns
 returns c = record {
-  next_table = filling_end _ _ _ c.requires.disjoint _ _ c.loop-rest.invariant.1 c.loop-rest-test.false;
-  others = c.loop-rest.invariant.2;
+  next_table = filling_end c.requires.disjoint c.loop-t.invariant.2 c.in-None.ensures.steps.0;
+  others = c.loop-t.invariant.3;
 }

@@ -1,35 +1,17 @@
-use mathlib.Core.Path.{◌≡◌, ap, ◌∙◌}
-use mathlib.Core.List.{[]}
-use Prim.Native.Nat.{ℕ, suc, ◌-◌, ◌^◌, ◌<◌}
-use native.Mathlib.Omega.{arith}
-use lib.Bits.{bit_and, and_le_l}
-use lib.ListN.{get_or}
-use Rattle.bondset.proofs.Laws.{pos_of_ne}
-use Rattle.model.specs.Layer.{ways}
-use Rattle.paths.specs.Nets.{net}
-use Rattle.counting.proofs.Tables.{low_lt, ways_lone}
+use Rattle.std.proofs.Common.{rules}
+use Rattle.counting.proofs.Tables.{down_start, down_next, down_end}
 use Rattle.counting.proofs.lone.Goals as goal
 
--- That one way alone goes down is read from the test, whatever the test is called.
-pub loop-i-preserved : goal.loop-i-preserved
-loop-i-preserved c =
-    let l = c.loop-i in
+pub loop-layer-init : goal.loop-layer-init
+loop-layer-init c =
     let a = c.args in
-    let down = bit_and (get_or a.adj.now l.a 0) (get_or a.layers.now (l.i - 1) 0) in
-    let some = pos_of_ne down c.if-down-eq0.false in
-    let word : down < 2 ^ 64 =
-    omega (arith, and_le_l (get_or a.adj.now l.a 0) (get_or a.layers.now (l.i - 1) 0), (c.type_inv.adj l.a).fits) in
-    let back : l.i ≡ suc (l.i - 1) = omega (arith, c.loop-i-test.true) in (
-      omega (arith, l.invariant.0),
-      low_lt down some word,
-      l.invariant.2 ∙ ap (λ (k : ℕ). ways (net a.adj.now []) a.layers.now k l.a) back
-          ∙ ways_lone a.adj.now a.layers.now (l.i - 1) l.a some word (omega arith),
-    )
+    rw (c.into_iter-layer-iterator.ensures.into_iter_gives, c.rev-layer-items.ensures.source, c.iter.ensures.rest)
+    (search rules, search rules, down_start a.adj.now a.layers.now a.d a.t c.requires.t_bound c.requires.d_in_bounds)
+
+pub loop-layer-preserved : goal.loop-layer-preserved
+loop-layer-preserved c =
+    let way = c.in-Some-default-eq0 in
+    (search rules, search rules, down_next c.loop-layer.invariant.2 _ _ c.in-Some.ensures.steps (rw way.field-0-1-test at way.ensures))
 
 pub returns : goal.returns
-unfolding ways
-returns c e =
-    let l = c.loop-i in
-    let a = c.args in
-    let top : l.i ≡ 0 = omega (arith, c.loop-i-test.false) in
-    l.invariant.2 ∙ ap (λ (k : ℕ). ways (net a.adj.now []) a.layers.now k l.a) top
+returns c e = down_end c.loop-layer.invariant.2 c.in-None.ensures.steps.0

@@ -1,12 +1,9 @@
--- The counts of the atoms before those left are 1.
-use mathlib.Core.Path.{◌≡◌}
-use Prim.Native.Nat.{◌<◌, ◌^◌}
-use lib.ListN.{length}
+-- Each atom of the set is left, or its count is 1.
+use Rattle.bondset.specs.Sets.{members}
 use Rattle.counting.proofs.Tables.{Done}
 use Rattle.counting.proofs.ones.Given as goal
 
-abbrev pub invariant-loop-rest : goal.invariant-loop-rest
-invariant-loop-rest l = (length l.counts ≡ length l.initial.counts) × (l.rest < 2 ^ 64) × Done (λ t. 1) l.s l.rest l.counts
-
-abbrev pub decreases-loop-rest : goal.decreases-loop-rest
-decreases-loop-rest l = l.rest
+abbrev pub invariant-loop-t : goal.invariant-loop-t
+invariant-loop-t l =
+    (goal.iterator-loop-t).can_next l.t-iterator × (goal.iterator-loop-t).is_finite l.t-iterator
+    × Done (λ t. 1) l.fn.s (members 64 l.t-iterator.rest) l.counts

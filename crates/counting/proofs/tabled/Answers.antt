@@ -1,19 +1,14 @@
-use Prim.Native.Nat.{◌+◌, ◌<◌}
+use Prim.Native.Nat.{◌<◌}
 use native.Mathlib.Omega.{arith}
 use borrow.Author.Rules.{rules}
-use Rattle.counting.proofs.Tables.{disjoint_less, layer_lt, table_start, table_end}
+use Rattle.counting.proofs.Tables.{layer_lt, table_start}
 use Rattle.counting.proofs.tabled.Goals as goal
 use Rattle.counting.proofs.tabled.Goals.{Start}
 
 pub loop-e-init : goal.loop-e-init
 loop-e-init c =
     let a = c.args in
-    (table_start a.adj.now a.layers.now _ c.ones.ensures, omega arith, search rules)
-
-pub fill-requires-clause-disjoint : goal.fill-requires-clause-disjoint
-fill-requires-clause-disjoint c =
-    let a = c.args in
-    disjoint_less a.adj.now a.layers.now a.d c.requires.disjoint (c.loop-e.e + 1) (omega arith)
+    table_start a.adj.now a.layers.now _ c.ones.ensures
 
 -- Both atoms are among 64.
 p_lt : (s : Start) → s.args.p < 64
@@ -33,10 +28,3 @@ offset_bounds-counts-q c = omega (arith, q_lt (goal.at.offset_bounds-counts-q c)
 
 pub bounds-counts-q : goal.bounds-counts-q
 bounds-counts-q c = let h = q_lt (goal.at.bounds-counts-q c).Start in search rules
-
-pub returns : goal.returns
-returns c =
-    let a = c.args in
-    let b = c.loop-e in
-    let at = table_end a.adj.now a.layers.now b.e a.d b.counts b.invariant.0 (omega arith) in
-    record { one = at a.p c.requires.p_value; other = at a.q c.requires.q_value }

@@ -1,43 +1,33 @@
-use mathlib.Core.List.{[]}
-use Prim.Native.Nat.{◌+◌}
-use native.Mathlib.Omega.{arith}
-use Rattle.bondset.proofs.Laws.{pos_of_ne}
-use Rattle.bondset.proofs.Members.{and_pred_lt}
+use Rattle.std.proofs.Common.{[], ◌+◌, arith, rules}
+use Rattle.bondset.proofs.Members.{first_lt}
 use Rattle.paths.specs.Nets.{net}
 use Rattle.counting.proofs.Bound.{ways_fit}
-use Rattle.counting.proofs.Tables.{low_lt, adding_start, adding_more, adding_le, adding_end}
+use Rattle.counting.proofs.Tables.{adding_start, adding_next, adding_le, adding_end}
 use Rattle.counting.proofs.total.Goals as goal
 
-pub loop-rest-init : goal.loop-rest-init
-loop-rest-init c =
+pub loop-s-init : goal.loop-s-init
+loop-s-init c =
     let a = c.args in
-    adding_start a.adj.now a.layers.now a.e a.t (c.requires.disjoint.words a.e (omega arith))
+    rw (c.into_iter-s-iterator.ensures.into_iter_gives, c.each-s-items.ensures)
+    (search rules, search rules, adding_start a.adj.now a.layers.now a.e a.t)
 
 pub offset_bounds-counts-s : goal.offset_bounds-counts-s
-offset_bounds-counts-s c = omega (arith, low_lt c.loop-rest.rest (pos_of_ne _ c.loop-rest-test.true) c.loop-rest.invariant.word)
+offset_bounds-counts-s c = omega (arith, first_lt 64 _ _ _ c.in-Some.ensures.steps)
 
 pub bounds-counts-s : goal.bounds-counts-s
-bounds-counts-s c = omega (arith, low_lt c.loop-rest.rest (pos_of_ne _ c.loop-rest-test.true) c.loop-rest.invariant.word)
+bounds-counts-s c = omega (arith, first_lt 64 _ _ _ c.in-Some.ensures.steps)
 
 pub overflow_add-sum : goal.overflow_add-sum
 overflow_add-sum c =
     let a = c.args in
-    let b = c.loop-rest in
-    let some = pos_of_ne _ c.loop-rest-test.true in
     omega (
       arith,
-      adding_le a.adj.now a.layers.now a.e b.rest b.sum _ b.invariant a.counts.now c.requires.table some,
+      adding_le c.loop-s.invariant.2 c.requires.table c.in-Some.ensures.steps,
       ways_fit (net a.adj.now []) a.layers.now (a.e + 1) c.requires.disjoint (a.e + 1) a.t (omega arith) c.requires.t_value,
     )
 
-pub loop-rest-smaller : goal.loop-rest-smaller
-loop-rest-smaller c = and_pred_lt c.loop-rest.rest (pos_of_ne _ c.loop-rest-test.true)
-
-pub loop-rest-preserved : goal.loop-rest-preserved
-loop-rest-preserved c =
-    let a = c.args in
-    let b = c.loop-rest in
-    adding_more a.adj.now a.layers.now a.e b.rest b.sum _ b.invariant a.counts.now c.requires.table (pos_of_ne _ c.loop-rest-test.true)
+pub loop-s-preserved : goal.loop-s-preserved
+loop-s-preserved c = (search rules, search rules, adding_next c.loop-s.invariant.2 c.requires.table c.in-Some.ensures.steps)
 
 pub returns : goal.returns
-returns c = adding_end _ _ _ _ _ _ c.loop-rest.invariant c.loop-rest-test.false
+returns c = adding_end c.loop-s.invariant.2 c.in-None.ensures.steps.0

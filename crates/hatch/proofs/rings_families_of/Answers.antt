@@ -1,13 +1,8 @@
--- The call on the copied bytes ensures of them what is ensured here of the records.
-use Rattle.std.proofs.Common.{List, ℕ, length, take, ap, ◌∙◌}
-use Rattle.records.specs.Records.{lent_bytes}
-use Rattle.records.proofs.Copying.{handed_copied}
-use Rattle.records.proofs.Handing.{answered_flattened}
+-- The claim on the records' bytes for every row number, read from the reply.
+use Rattle.hatch.proofs.Telling.{families_told}
 use Rattle.hatch.proofs.rings_families_of.Goals as goal
 
 pub returns : goal.returns
 returns c =
-    let bonds = c.args.bonds.now in
-    let f = c.families_copied in
-    let e = ap (λ (all : List ℕ). take (lent_bytes (length bonds)) all) c.copied-all.ensures ∙ handed_copied bonds in
-    record { answered = λ i. ((f.ensures.answered i).0, answered_flattened bonds e (f.ensures.answered i).1); plain = f.ensures.plain }
+    let told = families_told c.families_of.result c.into.ensures c.families_of.ensures in
+    record { answered = told.0; plain = told.1 }

@@ -4,6 +4,5 @@ use Rattle.hatch.proofs.rings_family_size.Goals as goal
 
 pub returns : goal.returns
 returns c =
-    let f = c.family_size-sized in
-    let told = size_told f.result.answer f.result.size c.replied.ensures f.ensures.answered in
+    let told = size_told c.family_size.result c.into.ensures c.family_size.ensures in
     record { answered = told.0; plain = told.1 }

@@ -1,32 +1,19 @@
-use mathlib.Core.Path.{sym, ◌∙◌}
-use Prim.Native.Nat.{◌-◌}
-use native.Mathlib.Omega.{arith}
-use lib.ListN.{length-set}
-use borrow.Author.Rules.{rules}
-use Rattle.housetext.specs.Text.{passes}
-use Rattle.housetext.proofs.Reading.{Along, along_none, along_more, answers_broken, answers_more, answers_read, bond_sound}
+-- `read_bonds`: a line more, or one of the three ways out.
+use Rattle.std.proofs.Common.{sym, ◌∙◌, arith, rules}
+use Rattle.housetext.proofs.Reading.{along_none, along_more, answers_broken, answers_more, answers_read}
 use Rattle.housetext.proofs.read_bonds.Goals as goal
 
 pub loop-k-init : goal.loop-k-init
 loop-k-init c = along_none _ _ _ _
 
 pub returns-in_default : goal.returns-in_default
-returns-in_default c = answers_broken c.loop-k.invariant (omega arith) (omega arith) (sym c.bond_line.ensures ∙ c.in_default.is)
-
-pub bounds-bonds-k-in-loop-k : goal.bounds-bonds-k-in-loop-k
-bounds-bonds-k-in-loop-k c = simp length-set (omega arith)
-
-pub slice_bounds-rest-count : goal.slice_bounds-rest-count
-slice_bounds-rest-count c = (bond_sound _ (sym c.bond_line.ensures ∙ c.in-Bond.is)).fits
-
-pub slice_bounds-rest-start : goal.slice_bounds-rest-start
-slice_bounds-rest-start c = (bond_sound _ (sym c.bond_line.ensures ∙ c.in-Bond.is)).fits
+returns-in_default c = answers_broken c.loop-k.invariant (omega arith) (omega arith) (sym c.bond_line.ensures.value ∙ c.in_default.is)
 
 pub loop-k-preserved : goal.loop-k-preserved
-loop-k-preserved c = along_more c.loop-k.invariant (omega arith) (omega arith) (sym c.bond_line.ensures ∙ c.in-Bond.is)
+loop-k-preserved c = along_more c.loop-k.invariant (omega arith) (omega arith) (sym c.bond_line.ensures.value ∙ c.in-Some.is)
 
-pub returns-then-rest-ne0 : goal.returns-then-rest-ne0
-returns-then-rest-ne0 c = answers_more c.loop-k.invariant (omega arith) (omega arith) c.if-rest-ne0.true
+pub returns-then-not-is_empty : goal.returns-then-not-is_empty
+returns-then-not-is_empty c = answers_more c.loop-k.invariant (omega arith) (omega arith) (search rules)
 
 pub returns : goal.returns
-returns c = answers_read c.loop-k.invariant (omega arith) (omega arith) c.if-rest-ne0.false
+returns c = answers_read c.loop-k.invariant (omega arith) (omega arith) (search rules)

@@ -7,17 +7,17 @@ use Rattle.listing.proofs.list.Goals as goal
 
 pub overflow_mul-end : goal.overflow_mul-end
 overflow_mul-end c =
-    let w = read_sound c.read-said.ensures c.in-Read.is in
+    let w = read_sound c.read.ensures c.in-Ok.is in
     omega (arith, w.few)
 
 pub slice_bounds-bonds-end : goal.slice_bounds-bonds-end
 slice_bounds-bonds-end c =
-    let w = read_sound c.read-said.ensures c.in-Read.is in
+    let w = read_sound c.read.ensures c.in-Ok.is in
     omega (arith, w.few)
 
 pub slice_bounds-families_sized-end : goal.slice_bounds-families_sized-end
 slice_bounds-families_sized-end c =
-    let w = read_sound c.read-said.ensures c.in-Read.is in
+    let w = read_sound c.read.ensures c.in-Ok.is in
     sym (length-take-le _ _ (omega (arith, w.few)))
 
 pub write_answer-requires : goal.write_answer-requires
@@ -32,20 +32,20 @@ write_answer-requires c =
       answer_in_bounds_4 = omega (arith, w.families, w.classes);
     }
 
-pub returns-in-Departs : goal.returns-in-Departs
-returns-in-Departs c =
+pub returns-in-Err : goal.returns-in-Err
+returns-in-Err c =
     let w = c.write_refusal.ensures in
     record {
-      listed = record { lines = _; printed = departs (read_departs _ c.read-said.ensures c.in-Departs.is); wrote = w.wrote };
+      listed = record { lines = _; printed = departs (read_departs _ c.read.ensures c.in-Err.is); wrote = w.wrote };
       upper_bound = omega (arith, w.upper_bound);
     }
 
-pub returns-in-Read : goal.returns-in-Read
-returns-in-Read c =
+pub returns-in-Ok : goal.returns-in-Ok
+returns-in-Ok c =
     let f = c.families_sized-answer in
     let a = f.ensures.answered 0 in
     let w = answer_room f.result a.0 a.1 in
-    let s = read_sound c.read-said.ensures c.in-Read.is in
+    let s = read_sound c.read.ensures c.in-Ok.is in
     let p = c.write_answer.ensures in
     record {
       listed = record { lines = _; printed = printed_answer f.result _ _ _ s f.ensures.sized; wrote = p.wrote };

@@ -1,92 +1,56 @@
 -- The counts, the test, and the rings.
-use mathlib.Core.Path.{sym, ◌∙◌}
-use native.Mathlib.Omega.{arith}
-use lib.Seq.{length-take-le}
+use Rattle.std.proofs.Common.{arith, ◌<◌, get_or}
 use Rattle.bondset.specs.Sets.{value}
-use Rattle.members.specs.Listed.{adj_in, touch_in, layers_in}
-use Rattle.members.proofs.Answering.{long, sized_part, disjoint_part, tables_part, p_lt, q_lt, short, fits, counted, written}
-use borrow.Author.Rules.{rules}
+use Rattle.counting.specs.Counts.{Counted}
+use Rattle.counting.proofs.Tables.{layer_lt}
+use Rattle.members.proofs.Answering.{short, counted, written}
 use Rattle.members.proofs.rings.Goals as goal
+use Rattle.members.proofs.rings.Goals.{Start, After-count}
 
-pub slice_bounds-count-end : goal.slice_bounds-count-end
-slice_bounds-count-end c =
+p_lt : (s : Start) → s.args.p < 64
+p_lt s = layer_lt s.args.net.now.adj s.args.layers.now s.args.d s.requires.disjoint s.args.p s.requires.ends.one
+
+q_lt : (s : Start) → s.args.q < 64
+q_lt s = layer_lt s.args.net.now.adj s.args.layers.now s.args.d s.requires.disjoint s.args.q s.requires.ends.other
+
+-- The table has the counts of p and of q.
+tabled : (c : After-count)
+    → Counted c.args.net.now.adj c.args.layers.now c.args.d c.args.p c.args.q
+    (record { from_p = get_or c.count.new.counts c.args.p 0; from_q = get_or c.count.new.counts c.args.q 0 })
+tabled c =
     let a = c.args in
-    sym (length-take-le 64 a.words.now (omega (arith, long a.words.now a.d c.requires.sized.deep)))
-
-pub slice_bounds-count-count : goal.slice_bounds-count-count
-slice_bounds-count-count c =
-    let a = c.args in
-    let h = long a.words.now a.d c.requires.sized.deep in search rules
-
-pub slice_bounds-count-start : goal.slice_bounds-count-start
-slice_bounds-count-start c =
-    let a = c.args in
-    let h = long a.words.now a.d c.requires.sized.deep in search rules
-
-pub count-requires-clause-sized : goal.count-requires-clause-sized
-count-requires-clause-sized c = sized_part c.args.words.now c.args.d c.requires.sized.deep c.requires.sized
-
-pub count-requires-clause-disjoint : goal.count-requires-clause-disjoint
-count-requires-clause-disjoint c = disjoint_part c.args.words.now c.args.d c.requires.sized.deep c.requires.disjoint
-
-pub offset_bounds-counts-p : goal.offset_bounds-counts-p
-offset_bounds-counts-p c =
-    let a = c.args in
-    omega (arith, p_lt (adj_in a.words.now) (touch_in a.words.now) (layers_in a.words.now) a.counts.now a.rings.now a.d a.p a.q (value a.link) c.requires.disjoint c.requires.ends)
+    record {
+      one = c.count.ensures.holds a.d a.p (omega arith) c.requires.ends.one;
+      other = c.count.ensures.holds a.d a.q (omega arith) c.requires.ends.other;
+    }
 
 pub bounds-counts-p : goal.bounds-counts-p
-bounds-counts-p c =
-    let a = c.args in
-    let h = p_lt (adj_in a.words.now) (touch_in a.words.now) (layers_in a.words.now) a.counts.now a.rings.now a.d a.p a.q (value a.link) c.requires.disjoint c.requires.ends in search rules
+bounds-counts-p c = omega (arith, p_lt (goal.at.bounds-counts-p c).Start, c.requires.sized.room)
 
-pub offset_bounds-counts-q : goal.offset_bounds-counts-q
-offset_bounds-counts-q c =
-    let a = c.args in
-    omega (arith, q_lt (adj_in a.words.now) (touch_in a.words.now) (layers_in a.words.now) a.counts.now a.rings.now a.d a.p a.q (value a.link) c.requires.disjoint c.requires.ends)
+pub offset_bounds-counts-p : goal.offset_bounds-counts-p
+offset_bounds-counts-p c = omega (arith, p_lt (goal.at.offset_bounds-counts-p c).Start)
 
 pub bounds-counts-q : goal.bounds-counts-q
-bounds-counts-q c =
-    let a = c.args in
-    let h = q_lt (adj_in a.words.now) (touch_in a.words.now) (layers_in a.words.now) a.counts.now a.rings.now a.d a.p a.q (value a.link) c.requires.disjoint c.requires.ends in search rules
+bounds-counts-q c = omega (arith, q_lt (goal.at.bounds-counts-q c).Start, c.requires.sized.room)
 
-pub returns-then-not-enough : goal.returns-then-not-enough
-returns-then-not-enough c =
-    let a = c.args in
-    short (adj_in a.words.now) (touch_in a.words.now) (layers_in a.words.now) _ a.rings.now a.d a.p a.q (value a.link) c.requires.disjoint c.requires.ends (tables_part a.words.now a.d c.requires.sized.deep c.count.ensures) (sym c.enough.ensures ∙ c.if-not-enough.true)
+pub offset_bounds-counts-q : goal.offset_bounds-counts-q
+offset_bounds-counts-q c = omega (arith, q_lt (goal.at.offset_bounds-counts-q c).Start)
 
-pub overflow_mul-n : goal.overflow_mul-n
-overflow_mul-n c =
+pub returns-in_err-n : goal.returns-in_err-n
+returns-in_err-n c =
     let a = c.args in
-    omega (arith, fits (adj_in a.words.now) (touch_in a.words.now) (layers_in a.words.now) _ a.rings.now a.d a.p a.q (value a.link) c.requires.disjoint c.requires.ends (tables_part a.words.now a.d c.requires.sized.deep c.count.ensures) (sym c.enough.ensures ∙ c.if-not-enough.false))
-
-pub overflow_mul-end : goal.overflow_mul-end
-overflow_mul-end c =
-    let a = c.args in
-    omega (arith, fits (adj_in a.words.now) (touch_in a.words.now) (layers_in a.words.now) _ a.rings.now a.d a.p a.q (value a.link) c.requires.disjoint c.requires.ends (tables_part a.words.now a.d c.requires.sized.deep c.count.ensures) (sym c.enough.ensures ∙ c.if-not-enough.false))
-
-pub slice_bounds-write-end : goal.slice_bounds-write-end
-slice_bounds-write-end c =
-    let a = c.args in
-    omega (arith, fits (adj_in a.words.now) (touch_in a.words.now) (layers_in a.words.now) _ a.rings.now a.d a.p a.q (value a.link) c.requires.disjoint c.requires.ends (tables_part a.words.now a.d c.requires.sized.deep c.count.ensures) (sym c.enough.ensures ∙ c.if-not-enough.false))
-
-pub slice_bounds-write-end-2 : goal.slice_bounds-write-end-2
-slice_bounds-write-end-2 c =
-    let a = c.args in
-    sym (length-take-le _ a.rings.now (omega (arith, fits (adj_in a.words.now) (touch_in a.words.now) (layers_in a.words.now) _ a.rings.now a.d a.p a.q (value a.link) c.requires.disjoint c.requires.ends (tables_part a.words.now a.d c.requires.sized.deep c.count.ensures) (sym c.enough.ensures ∙ c.if-not-enough.false))))
+    rw c.from_residual.ensures (short (tabled (goal.at.returns-in_err-n c).After-count) a.net.now.touch (value a.link) c.in_err-n.ensures)
 
 pub write-requires : goal.write-requires
 write-requires c =
     let a = c.args in
     record {
-      p_bound = p_lt (adj_in a.words.now) (touch_in a.words.now) (layers_in a.words.now) a.counts.now a.rings.now a.d a.p a.q (value a.link) c.requires.disjoint c.requires.ends;
-      q_bound = q_lt (adj_in a.words.now) (touch_in a.words.now) (layers_in a.words.now) a.counts.now a.rings.now a.d a.p a.q (value a.link) c.requires.disjoint c.requires.ends;
-      lent = record { deep = omega (arith, long a.words.now a.d c.requires.sized.deep) };
-      counted =
-          counted (adj_in a.words.now) (touch_in a.words.now) (layers_in a.words.now) _ a.rings.now a.d a.p a.q (value a.link) c.requires.disjoint c.requires.ends
-          (tables_part a.words.now a.d c.requires.sized.deep c.count.ensures) (sym c.enough.ensures ∙ c.if-not-enough.false);
+      p_bound = p_lt (goal.at.write-requires c).Start;
+      q_bound = q_lt (goal.at.write-requires c).Start;
+      counted = counted (tabled (goal.at.write-requires c).After-count) a.net.now.touch (value a.link) a.rings.now (omega (arith, c.requires.sized.deep)) c.in_ok-n.ensures;
     }
 
 pub returns : goal.returns
 returns c =
     let a = c.args in
-    written (adj_in a.words.now) (touch_in a.words.now) (layers_in a.words.now) _ a.rings.now a.d a.p a.q (value a.link) c.requires.disjoint c.requires.ends (tables_part a.words.now a.d c.requires.sized.deep c.count.ensures) (sym c.enough.ensures ∙ c.if-not-enough.false) _ c.write.ensures
+    written (tabled (goal.at.returns c).After-count) a.net.now.touch (value a.link) a.rings.now (omega (arith, c.requires.sized.deep)) c.in_ok-n.ensures c.write.ensures

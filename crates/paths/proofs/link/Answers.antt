@@ -1,16 +1,16 @@
 -- One bond, or the sum of two.
-use mathlib.Core.Path.{ap₂, ◌∙◌}
-use borrow.Author.Tests.{eq-eqb, ne_eqb}
-use lib.Bits.{bit_xor}
+use Rattle.std.proofs.Common.{ap₂, ◌∙◌, arith, ne_eqb}
+use Rattle.std.specs.Int.Bits.{bit_xor}
 use Rattle.model.specs.State.{link}
 use Rattle.paths.proofs.link.Goals as goal
 
-pub returns-then-x-eq255 : goal.returns-then-x-eq255
+pub returns-in-None : goal.returns-in-None
 unfolding link
-returns-then-x-eq255 c k t = rw (eq-eqb c.args.x 255 c.if-x-eq255.true) c.bond.ensures
+returns-in-None c k t = rw c.in-None.is c.bond.ensures
 
-pub returns : goal.returns
+pub returns-in-Some : goal.returns-in-Some
 unfolding link
-returns c k t =
-    rw (ne_eqb c.args.x 255 c.if-x-eq255.false)
-    (c.sum.ensures ∙ ap₂ bit_xor c.bond-2.ensures c.bond-3.ensures)
+returns-in-Some c k t =
+    let small = rw c.in-Some.is at c.requires.x_bound in
+    rw (c.in-Some.is, ne_eqb c.in-Some.x 255 (λ e. omega (arith, e, small)))
+    (c.sum.ensures ∙ ap₂ bit_xor c.bond-in-Some.ensures c.bond-in-Some-2.ensures)

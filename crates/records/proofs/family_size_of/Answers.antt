@@ -1,13 +1,6 @@
--- The call on the copied bytes ensures of them what is ensured here of the records.
-use Rattle.std.proofs.Common.{List, ℕ, length, take, ap, ◌∙◌}
-use Rattle.records.specs.Records.{lent_bytes}
-use Rattle.records.proofs.Copying.{handed_copied}
-use Rattle.records.proofs.Handing.{answered_flattened}
+-- The claim of the byte form on the bytes lent is that on the records' bytes.
+use Rattle.records.proofs.Copying.{answered_copied}
 use Rattle.records.proofs.family_size_of.Goals as goal
 
 pub returns : goal.returns
-returns c =
-    let bonds = c.args.bonds.now in
-    let f = c.family_size_copied in
-    let e = ap (λ (all : List ℕ). take (lent_bytes (length bonds)) all) c.copied-all.ensures ∙ handed_copied bonds in
-    record { answered = answered_flattened bonds e f.ensures.answered; silent = f.ensures.silent }
+returns c = answered_copied c.args.bonds.now c.lent.ensures.counted c.copied-all.ensures c.family_size.ensures

@@ -1,10 +1,6 @@
-use mathlib.Core.Path.{◌≡◌, refl, sym, ap₂, ◌∙◌}
-use mathlib.Core.List.{List}
-use Prim.Native.Nat.{ℕ, zero, suc, ◌-◌, ◌*◌, ◌%◌, ◌^◌, ◌<◌}
-use native.Mathlib.Numerals.{add-one}
-use native.Mathlib.Omega.{arith}
-use lib.Bits.{bit_and, and_le_l}
-use lib.ListN.{length, set, length-set}
+use Rattle.std.proofs.Common.{◌≡◌, List, set, get_or, refl, ap₂, ◌∙◌, arith, add-one, length-set}
+use Prim.Native.Nat.{ℕ, zero, suc, ◌+◌, ◌-◌, ◌*◌, ◌%◌, ◌^◌, ◌<◌}
+use lib.Bits.{bit_and, and_le_r}
 use Rattle.bondset.proofs.Laws.{pos_of_ne}
 use Rattle.model.specs.Fold.{through, count}
 use Rattle.model.specs.Net.{Net, nbrs}
@@ -13,16 +9,17 @@ use Rattle.atoms.specs.Nets.{neighbours}
 use Rattle.atoms.proofs.Loops.{upto_start, upto_next, upto_end}
 use Rattle.atoms.proofs.Words.{one_shl}
 use Rattle.search.proofs.Fronts.{first_layer, layering_start}
+use Rattle.search.proofs.Waves.{and_not}
 use Rattle.search.proofs.layers.Goals as goal
+use Rattle.search.proofs.layers.Goals.{After-of}
 
 -- After layers 0 and 1 come the others.
-layers_from : (G : Net) → ((a : ℕ) → nbrs G a < 2 ^ 64) → (pre r : ℕ) → r < 64 → (depth : ℕ) → 0 < depth → (us : List ℕ)
-    → let start = 1 * 2 ^ r % 2 ^ 64 in
-    through (λ i us. set us i (layer G pre r i)) (count 2 (depth - 1)) (set (set us 0 start) 1 (bit_and (nbrs G r) pre - bit_and (bit_and (nbrs G r) pre) start))
-    ≡ layers_into G pre r depth us
+layers_from : (G : Net) (pre r : ℕ) → r < 64 → (depth : ℕ) → 0 < depth → (us : List ℕ) (start under : ℕ) → start ≡ 2 ^ r
+    → under ≡ bit_and (nbrs G r) pre - bit_and (bit_and (nbrs G r) pre) start
+    → through (λ i us. set us i (layer G pre r i)) (count 2 (depth - 1)) (set (set us 0 start) 1 under) ≡ layers_into G pre r depth us
 unfolding layers_into through count layer wave
-layers_from G small pre r h zero some us = absurd (omega arith)
-layers_from G small pre r h (suc k) some us = let e : suc k - 1 ≡ k = omega arith in rw (one_shl r h, first_layer G small pre r h, e)
+layers_from G pre r h zero some us start under s u = absurd (omega arith)
+layers_from G pre r h (suc k) some us start under s u = let e : suc k - 1 ≡ k = omega arith in rw (u, s, first_layer G pre r h, e)
 
 pub returns-then-depth-eq0 : goal.returns-then-depth-eq0
 unfolding layers_into through count layer wave
@@ -30,69 +27,36 @@ returns-then-depth-eq0 c =
     let a = c.args in
     rw (one_shl a.r (omega arith), c.if-depth-eq0.true)
 
-pub overflow_sub-under : goal.overflow_sub-under
-overflow_sub-under c = and_le_l _ _
-
-pub bounds-layers-1 : goal.bounds-layers-1
-bounds-layers-1 c =
-    let some = pos_of_ne c.args.depth c.if-depth-eq0.false in
-    simp length-set (omega (arith, some, c.requires.depth_in_bounds))
-
-pub overflow_cast-queue : goal.overflow_cast-queue
-overflow_cast-queue c = omega arith
-
-pub overflow_sub-d-end : goal.overflow_sub-d-end
-overflow_sub-d-end c = pos_of_ne _ c.if-depth-eq0.false
+-- Layer 1, as it is written.
+first : (c : After-of)
+    → let start = 1 * 2 ^ c.args.r % 2 ^ 64 in
+    let beneath = bit_and (get_or c.args.adj.now c.args.r 0) c.args.pre in
+    bit_and beneath (2 ^ 64 - 1 - start) ≡ beneath - bit_and beneath start
+first c = and_not _ _ (omega (arith, and_le_r (get_or c.args.adj.now c.args.r 0) c.args.pre)) (omega arith)
 
 pub loop-d-init : goal.loop-d-init
 loop-d-init c =
     let a = c.args in
-    rw (one_shl a.r (omega arith)) (
-      omega arith,
+    let q = c.of.ensures in (
       refl,
-      refl,
-      layering_start (neighbours a.adj.now) (λ t. (c.type_inv.adj t).fits) a.pre a.r (omega arith),
+      layering_start (neighbours a.adj.now) a.pre a.r (omega arith) _ (one_shl a.r (omega arith)) _ refl (first (goal.at.loop-d-init c).After-of) q.ends q.alone,
       upto_start _ 2 _,
     )
-
-pub slice_bounds-next-end : goal.slice_bounds-next-end
-slice_bounds-next-end c = sym c.loop-d.invariant.2
-
-pub next-s-requires : goal.next-s-requires
-next-s-requires c =
-    let l = c.loop-d in
-    record {
-      adj_in_bounds = c.requires.in_bounds;
-      queue_in_bounds = omega (arith, l.invariant.2);
-      ready = l.invariant.3.ready;
-    }
-
-pub bounds-layers-d : goal.bounds-layers-d
-bounds-layers-d c =
-    let l = c.loop-d in
-    let long : length l.layers ≡ length c.args.layers.now = l.invariant.1 ∙ simp length-set in
-    omega (arith, c.loop-d-test.true, long, c.requires.depth_in_bounds)
 
 pub loop-d-preserved : goal.loop-d-preserved
 loop-d-preserved c =
     let l = c.loop-d in
-    let next = c.next-s.ensures c.args.r l.d l.invariant.3 in (
-      omega (arith, c.loop-d-test.true),
-      simp length-set (simp length-set at l.invariant.1),
-      c.next-s.auto.queue ∙ l.invariant.2,
-      rw add-one next,
-      upto_next _ (omega arith) (ap₂ (set l.layers) (omega arith) next.under) l.invariant.4,
+    let next = c.next.ensures c.args.r (l.d - 1) l.invariant.1 in
+    let e : l.d + 1 - 1 ≡ l.d - 1 + 1 = omega arith in (
+      simp length-set (simp length-set at l.invariant.0),
+      rw (e, add-one) next,
+      rw e (upto_next _ (omega arith) (ap₂ (set l.layers) (omega arith) next.under) l.invariant.2),
     )
-
-pub shape_of-layers : goal.shape_of-layers
-shape_of-layers c =
-    let l = c.loop-d in
-    l.invariant.1 ∙ simp length-set
 
 pub returns : goal.returns
 returns c =
     let l = c.loop-d in
     let a = c.args in
-    upto_end _ {n = a.depth - 1} (omega (arith, l.invariant.0, c.loop-d-test.false)) l.invariant.4
-    ∙ layers_from (neighbours a.adj.now) (λ t. (c.type_inv.adj t).fits) a.pre a.r (omega arith)
-    a.depth (pos_of_ne _ c.if-depth-eq0.false) a.layers.now
+    upto_end _ {n = a.depth - 1} (omega arith) l.invariant.2
+    ∙ layers_from (neighbours a.adj.now) a.pre a.r (omega arith) a.depth (pos_of_ne _ c.if-depth-eq0.false) a.layers.now
+    _ _ (one_shl a.r (omega arith)) (first (goal.at.returns c).After-of)

@@ -1,16 +1,13 @@
--- Layers 0 and 1 are the start and its neighbours; then layer d + 1 is written, and the search stands at distance d.
-use mathlib.Core.Path.{◌≡◌}
-use Prim.Native.Nat.{◌-◌, ◌≤◌}
-use lib.ListN.{length, set}
+-- Layers 0 to d are written, and the search stands at distance d - 1.
+use Rattle.std.proofs.Common.{◌≡◌, ◌-◌, length, set}
 use Rattle.model.specs.Layer.{layer}
 use Rattle.atoms.specs.Nets.{neighbours}
-use Rattle.search.specs.Search.{Layering}
 use Rattle.atoms.proofs.Loops.{Upto}
+use Rattle.search.specs.Search.{Layering}
 use Rattle.search.proofs.layers.Given as goal
 
 abbrev pub invariant-loop-d : goal.invariant-loop-d
-invariant-loop-d l = (l.d ≤ l.depth - 1) × (length l.layers ≡ length l.initial.layers) × (length l.queue ≡ 64) × Layering (neighbours l.adj) l.pre l.r l.d l.queue l.s
-    × Upto (λ i us. set us i (layer (neighbours l.adj) l.pre l.r i)) 2 l.initial.layers l.d l.layers
-
-abbrev pub decreases-loop-d : goal.decreases-loop-d
-decreases-loop-d l = l.d-end - l.d
+invariant-loop-d l =
+    let G = neighbours l.fn.adj in
+    (length l.layers ≡ length l.initial.layers) × Layering G l.pre l.r (l.d - 1) l.search
+    × Upto (λ i us. set us i (layer G l.pre l.r i)) 2 l.initial.layers (l.d - 1) l.layers

@@ -1,25 +1,31 @@
 -- The engine begins with no ring and all lists zero.
-use mathlib.Core.Path.{refl}
-use native.Mathlib.Omega.{arith}
-use Rattle.engine.specs.Lengths.{begun}
-use Rattle.candidates.specs.Going.{graph}
-use Rattle.engine.proofs.Tried.{sized_start, fit_start, run_is}
+use Rattle.std.proofs.Common.{arith, ◌∙◌}
+use Rattle.model.specs.Net.{preceding}
+use Rattle.atoms.proofs.Same.{tops_same}
+use Rattle.atoms.proofs.Loops.{upto_end}
+use Rattle.candidates.specs.Nets.{graph}
+use Rattle.engine.proofs.Tried.{length_turn_lem, run_start, run_is}
+use Rattle.engine.proofs.lengths.run.Goals.{else-loop-k-test, then-loop-k-test+else-k-k-end}
 use Rattle.engine.proofs.lengths.run.Goals as goal
 
-pub rounds-requires : goal.rounds-requires
-rounds-requires c = record { n_bound = c.requires.n_bound; tops_value = c.requires.tops_value; in_bounds = c.requires.in_bounds; in_bounds_2 = c.requires.in_bounds_2; in_bounds_3 = omega arith; in_bounds_4 = omega arith; sized = sized_start; fit = fit_start }
+pub invariant_of-task : goal.invariant_of-task
+invariant_of-task c = record { all_tops = c.tops.ensures ∙ tops_same (graph c.args.net.now) preceding }
 
-pub shape_of-out : goal.shape_of-out
-shape_of-out c = c.rounds.auto.out
+pub loop-k-init : goal.loop-k-init
+loop-k-init c = (omega arith, run_start _ (c.new.ensures c.args.out.now c.args.table.now))
 
-pub shape_of-table : goal.shape_of-table
-shape_of-table c = c.rounds.auto.table
-
-pub shape_of-sizes : goal.shape_of-sizes
-shape_of-sizes c = c.rounds.auto.sizes
+pub loop-k-preserved : goal.loop-k-preserved
+loop-k-preserved c = (omega arith, length_turn_lem _ (omega arith) c.round.ensures c.loop-k.invariant.1)
 
 pub returns : goal.returns
-unfolding begun
 returns c =
     let a = c.args in
-    run_is (graph a.n a.adj.now a.touch.now) a.from a.full refl c.rounds.ensures
+    elim c.loop-k-test.branch [
+      | else-loop-k-test w ↦
+          rw (w.running-is, w.out-is, w.table-is, w.sizes-is)
+          (run_is (graph a.net.now) a.from a.full c.loop-k.running (upto_end _ (omega arith) c.loop-k.invariant.1))
+      | then-loop-k-test+else-k-k-end w ↦
+          rw (w.running-is, w.out-is, w.table-is, w.sizes-is)
+          (run_is (graph a.net.now) a.from a.full w.round.new.self
+          (upto_end _ (omega arith) (length_turn_lem _ (omega arith) w.round.ensures c.loop-k.invariant.1)))
+    ]
