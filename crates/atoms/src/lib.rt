@@ -1,7 +1,8 @@
-//! Sets of atoms as words, the neighbours of a set, and which atoms precede another.
+//! Sets of atoms as words, the neighbours of a set, which atoms precede another, and a compound as the engine holds it.
 //!
-//! Atom k is in a set if bit k of the word is 1. Each function promises what the model of the same name computes, for any words. That an
-//! atom precedes another is said in one place, `preceding`, by the number of the atom.
+//! Atom k is in a set if bit k of the word is 1. `above`, `two`, `near`, `preceding` and `Net::tops` promise what the model of the same name
+//! computes, for any words; `each` goes through the atoms of a set from the lowest on. That an atom precedes another is said in one place,
+//! `preceding`, by the number of the atom.
 
 #![tactic(auto)]
 

@@ -6,7 +6,7 @@ use Prim.Native.Nat.{ℕ, zero, suc, ◌+◌, ◌-◌, ◌*◌, ◌/◌, ◌%◌
 use native.Mathlib.Nat.{add_comm, pow-suc, mul-div_cancel, mul-mod_left, zero-min, mod-lt, zero-lt-suc}
 use native.Mathlib.Numerals.{add-one}
 use native.Mathlib.Omega.{arith}
-use lib.Bits.{bit_xor, bit_and, differ, and_step, xor_step, and_self, and_le_r, xor_zero_r}
+use lib.Bits.{bit_xor, bit_and, differ, and_step, xor_step, and_self, xor_zero_r}
 use lib.Count.{count_trailing_zeros, under}
 use lib.ListN.{length, length-append}
 use lib.Pow.{shr_lt}
@@ -146,7 +146,3 @@ members_step n s p h =
 -- the same, of a lowest member and of others that are told
 pub members_split : (n s k r : ℕ) → 0 < s → s < 2 ^ n → k ≡ count_trailing_zeros n s → r ≡ bit_and s (s - 1) → members n s ≡ k ∷ members n r
 members_split n s k r p h e f = members_step n s p h ∙ sym (ap₂ (λ k r. k ∷ members n r) e f)
-
--- the loop ends
-pub and_pred_lt : (s : ℕ) → 0 < s → bit_and s (s - 1) < s
-and_pred_lt s p = omega (arith, and_le_r s (s - 1))

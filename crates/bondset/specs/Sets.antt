@@ -1,6 +1,6 @@
 -- Sets of bonds as numbers: the definitions that the contracts cite.
 -- A bond set is any set of bonds: one bit for each, bond k having weight 2^k. Its length is the number of bonds in it.
--- The sum of two sets holds the bonds in exactly one of them: it is `lib.Bits.bit_xor`, and the bonds in both are `lib.Bits.bit_and`.
+-- The sum of two sets holds the bonds in exactly one of them: it is `bit_xor` of `std`, and the bonds in both are its `bit_and`.
 use Rattle.std.specs.Prelude.{◌≡◌, Bool, cond, List, [], ◌∷◌, ◌++◌, ℕ, zero, suc, ◌+◌, ◌*◌, ◌/◌, ◌%◌, ◌^◌, ◌<◌, eqb, ltb}
 use Rattle.spans.specs.Elements.{◌∈◌}
 use Rattle.bondset.specs.declared.BondSet.{BondSet}

@@ -3,18 +3,17 @@
 //! A set's value is the number in which bond k has weight 2^k, and each function says exactly what becomes of that number:
 //! sums, intersections, single bonds, membership, length, the lowest bond, the bonds from one on, and the set as 12 bytes.
 //! A byte beyond the end of a list counts as 0.
-//! Each of these answers for every input, and nothing is assumed of what the bonds join.
+//! Each of these answers for every input, but for `BondSet::byte`, which asks for one of the 12, and nothing is assumed of what the bonds
+//! join. What sets of two words and of one share stands in `WordSet`.
 
 #![tactic(auto)]
 
-ghost use Rattle.std.specs.Prelude.{◌≡◌, ◌+◌, ◌-◌, ◌*◌, ◌/◌, ◌^◌, ◌<◌, ◌≤◌, [], ◌∷◌, min, eqb, length, get_or, drop, MatchOption};
+ghost use Rattle.std.specs.Prelude.{◌≡◌, ◌+◌, ◌*◌, ◌/◌, ◌^◌, ◌<◌, ◌≤◌, min, length, get_or};
 ghost use Rattle.std.specs.Int.Bits.{bit_xor, bit_and};
-ghost use Rattle.std.specs.Int.Count.{count_trailing_zeros};
 ghost use Rattle.std.proofs.Math.Seq.{paste};
-ghost use Rattle.bondset.specs.Bytes.{byte_of, bytes_of, of_first, of_bytes};
+ghost use Rattle.bondset.specs.Bytes.{byte_of, bytes_of, of_bytes};
 ghost use Rattle.bondset.specs.Rows.{row_at, put_row};
-ghost use Rattle.std.specs.Iterator.{YieldsFirst, item_count};
-ghost use Rattle.bondset.specs.Sets.{has, single, length_to, members, value};
+ghost use Rattle.bondset.specs.Sets.{single, length_to, value};
 
 pub mod indexed;
 pub mod reduction;

@@ -2,7 +2,7 @@
 //!
 //! Each row has a tag, the set of that number in `tags`, and a pivot, the byte of that number in `pivots`: a bond that the row holds. The tag
 //! names chosen sets by their numbers, and the row is their sum.
-ghost use Rattle.std.specs.Prelude.{◌+◌, ◌<◌, ◌≤◌, length};
+ghost use Rattle.std.specs.Prelude.{◌<◌, ◌≤◌, length};
 ghost use Rattle.bondset.specs.Sets.{value};
 ghost use Rattle.bondset.specs.Rows.{flat};
 ghost use Rattle.bondset.specs.Reduction.{Reduces, Pushes};

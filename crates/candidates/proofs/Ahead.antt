@@ -1,5 +1,5 @@
 -- What is ahead of a cursor, as the cursor moves.
-use mathlib.Core.Path.{◌≡◌, refl, sym, ap, ap₂, ◌∙◌}
+use mathlib.Core.Path.{◌≡◌, refl, sym, ap}
 use mathlib.Core.List.{List, [], ◌∷◌, ◌++◌, append-nil, append_assoc, map}
 use Prim.Native.Nat.{ℕ, ◌-◌, ◌/◌, ◌%◌, ◌<◌, ◌≤◌}
 use native.Mathlib.Omega.{arith}
@@ -7,7 +7,6 @@ use borrow.Author.Tests.{eq-eqb, ne_eqb}
 use lib.Bits.{bit_and}
 use lib.ListN.{length, get_or}
 use Rattle.std.proofs.Common.{Option, Some, None, IfSome, Bor}
-use Rattle.std.proofs.lemmas.List.{map-append}
 use Rattle.spans.specs.Elements.{◌∈◌, first, later}
 use Rattle.bondset.specs.Sets.{bit, members}
 use Rattle.bondset.proofs.Laws.{length_le}
@@ -18,7 +17,7 @@ use Rattle.model.specs.Net.{Net}
 use Rattle.model.specs.Candidates.{pairs, tips, odds, evens, found}
 use Rattle.model.proofs.NetBits.{and_has}
 use Rattle.model.proofs.ItemsSets.{above_has}
-use Rattle.model.proofs.ItemsLists.{from_each}
+use Rattle.model.proofs.ItemsLists.{map_each, from_each}
 use Rattle.model.specs.Cross.{cross}
 use Rattle.candidates.specs.declared.cursor.Cursor.{Cursor}
 use Rattle.candidates.specs.Cursor.{Spot, partners_in, with_q, with_p, with_x, ahead, left, named, Within, Firsts}
@@ -98,13 +97,6 @@ module _ (c : Cursor) where
     ahead_none p x = rw (q_none c.x c.p c.qs none, p_none c.adj.now c.all c.x c.ps p, x_none c.adj.now c.below c.xs x) refl
 
 -- ---- which candidates they are
-
--- What is mapped in each of the lists is mapped in all of them together.
-module _ {A B C : Type 0} (f : B → C) (g : A → List B) (h : A → List C) (same : (a : A) → map f (g a) ≡ h a) where
-  map_each : (l : List A) → map f (each g l) ≡ each h l
-  unfolding each
-  map_each [] = refl
-  map_each (a ∷ l) = map-append f (g a) (each g l) ∙ ap₂ ◌++◌ (same a) (map_each l)
 
 -- Their families are those of the model.
 module _ (G : Net) (k r : ℕ) where

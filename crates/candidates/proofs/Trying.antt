@@ -1,4 +1,4 @@
--- The loop over candidates, `for (p, q, x) in candidates(..) { self.attempt(..); }`.
+-- The loop over the candidates that are ahead of a cursor.
 use mathlib.Core.Path.{◌≡◌, sym, ap, ◌∙◌}
 use mathlib.Core.List.{List, [], ◌∷◌, map}
 use Prim.Native.Nat.{ℕ, ◌-◌, ◌/◌, ◌≤◌}

@@ -35,7 +35,7 @@ with_x adj below xs = each (λ x. let all = bit_and (get_or adj x 0) below in wi
 unfoldable pub ahead : Cursor → List Spot
 ahead c = let adj = c.adj.now in with_q c.x c.p c.qs ++ (with_p adj c.all c.x c.ps ++ with_x adj c.below c.xs)
 
--- How much is left but the q of the p in hand.
+-- How much is left but the q of the p in hand. One x outweighs all p, of which there are 64 at the most.
 abbrev pub left : Cursor → ℕ
 left c = length (members 64 c.xs) * 65 + length (members 64 c.ps)
 

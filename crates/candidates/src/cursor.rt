@@ -1,5 +1,5 @@
 //! The candidates of one length under one top atom, one after the other in the order of the rows.
-ghost use Rattle.std.specs.Prelude.{◌≡◌, [], ◌/◌, ◌<◌, ◌≤◌, length, MatchOption};
+ghost use Rattle.std.specs.Prelude.{◌≡◌, [], ◌/◌, ◌<◌, ◌≤◌, length};
 ghost use Rattle.bondset.specs.Sets.{members};
 
 /// The candidates still to come, each with its p, its q, and its x if the length is even: those with this x and this p and a q of `qs`, then

@@ -1,5 +1,5 @@
 -- The turns of the loops that count paths: down from an atom that has one way to go, or by a table.
-use mathlib.Core.Path.{◌≡◌, refl, sym, ap, ◌∙◌}
+use mathlib.Core.Path.{◌≡◌, sym, ap, ◌∙◌}
 use mathlib.Core.List.{List, [], ◌∷◌}
 use mathlib.Core.Logic.{◌⊎◌, inl, inr, ⊎_elim}
 use Prim.Native.Nat.{ℕ, suc, ◌+◌, ◌^◌, ◌<◌, ◌≤◌}
@@ -15,6 +15,7 @@ use Rattle.std.proofs.lemmas.List.{length-take-le}
 use Rattle.spans.specs.Elements.{◌∈◌, first, later}
 use Rattle.bondset.specs.Sets.{bit, members}
 use Rattle.bondset.proofs.Members.{members_zero, mem_members, bit_of_mem, first_lt}
+use Rattle.cycles.proofs.PathsDecide.{not_in_none, in_cases}
 use Rattle.model.specs.Fold.{through}
 use Rattle.model.specs.Layer.{ways}
 use Rattle.model.proofs.NetBits.{and_has, lt_of_has}
@@ -63,16 +64,6 @@ down_end down e = sym (rw e at down.same)
 pub record Done (f : ℕ → ℕ) (s : ℕ) (left counts : List ℕ) : Type 0 where
   each : (k : ℕ) → bit s k ≡ 1 → (k ∈ left) ⊎ (get_or counts k 0 ≡ f k)
 
-tail : (k t : ℕ) (ks : List ℕ) → (k ≡ t → ⊥) → k ∈ t ∷ ks → k ∈ ks
-tail k t ks ne m = go t ks m ne
-  where
-    go : (t : ℕ) (ks : List ℕ) → k ∈ t ∷ ks → (k ≡ t → ⊥) → k ∈ ks
-    go t ks first ne = absurd (ne refl)
-    go t ks (later m) ne = m
-
-nowhere : {k : ℕ} → k ∈ [] → ⊥
-nowhere m = elim m [ ]
-
 module _ (f : ℕ → ℕ) (s : ℕ) where
   pub done_start : (counts : List ℕ) → s < 2 ^ 64 → Done f s (members 64 s) counts
   done_start counts word = record { each = λ k b. inl ((mem_members 64 s k).1 (lt_of_has 64 s k word b, b)) }
@@ -83,11 +74,11 @@ module _ (f : ℕ → ℕ) (s : ℕ) where
     where
       go : (k : ℕ) → Dec (k ≡ t) → (k ∈ t ∷ left') ⊎ (get_or counts k 0 ≡ f k) → (k ∈ left') ⊎ (get_or (set counts t v) k 0 ≡ f k)
       go k (yes at) c = inr (rw at (get_or-set_same counts t v 0 room ∙ is))
-      go k (no ne) (inl m) = inl (tail k t left' ne m)
+      go k (no ne) (inl m) = inl (⊎_elim (λ (e : t ≡ k). absurd (ne (sym e))) (λ (h : k ∈ left'). h) (in_cases m))
       go k (no ne) (inr c) = inr (get_or-set_other counts t k v 0 ne ∙ c)
 
   pub done_end : {left counts : List ℕ} → left ≡ [] → Done f s left counts → (k : ℕ) → bit s k ≡ 1 → get_or counts k 0 ≡ f k
-  done_end {left} {counts} e done k b = ⊎_elim (λ (m : k ∈ left). absurd (nowhere (rw e at m))) (λ (c : get_or counts k 0 ≡ f k). c) (done.each k b)
+  done_end {left} {counts} e done k b = ⊎_elim (λ (m : k ∈ left). absurd (not_in_none (rw e at m))) (λ (c : get_or counts k 0 ≡ f k). c) (done.each k b)
 
 -- ---- the sum of the counts of some atoms
 

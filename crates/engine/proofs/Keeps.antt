@@ -20,6 +20,7 @@ use Rattle.model.specs.State.{State, marked, unmarked, kept}
 use Rattle.model.specs.Run.{Numbering, blank, more, numbered, classed, settled}
 use Rattle.model.proofs.Related.{through_related}
 use Rattle.rows.specs.Rows.{Numbers, family_bytes, class_bytes, put_family, open_class, more_class, numbered_in, patched}
+use Rattle.rows.proofs.Bytes.{class_bytes_same}
 use Rattle.ledger.specs.Ledger.{Ledger, marked_in, summed_in, entered, settled_in}
 use Rattle.engine.proofs.Laid.{laid, length_laid, laid_out, laid_next, get_or_laid, set_laid, put, put_laid}
 
@@ -170,13 +171,6 @@ families_more f h held e =
     ∙ ap (λ (n : ℕ). (f + n) % 65536) e
     ∙ add-mod-mod f h 65536
 
-class_bytes_lem : (k r r' f f' : ℕ) → r % 256 ≡ r' % 256 → f % 65536 ≡ f' % 65536 → class_bytes k r f ≡ class_bytes k r' f'
-unfolding class_bytes
-class_bytes_lem k r r' f f' p q =
-    let low : f % 256 ≡ f' % 256 = omega arith in
-    let high : f / 256 % 256 ≡ f' / 256 % 256 = high_byte f ∙ ap (λ (n : ℕ). n / 256) q ∙ sym (high_byte f') in
-    rw (p, low, high, q)
-
 held_same : (h : ℕ) → word h % 65536 % 65536 ≡ h % 65536
 held_same h = omega arith
 
@@ -185,7 +179,7 @@ module _ (table₀ : List ℕ) where
       → open_class (written_classes table₀ table) (length table) k held ≡ written_classes table₀ (table ++ (row ∷ []))
   unfolding open_class
   open_written table row k held e r h =
-      rw (e, class_bytes_lem row.long 1 row.rank held row.families (ap (λ (n : ℕ). n % 256) (sym r)) h)
+      rw (e, class_bytes_same row.long 1 row.rank held row.families (ap (λ (n : ℕ). n % 256) (sym r)) h)
       (laid_next 5 class_row_bytes class_wide room_5 table₀ table row)
 
   module _ (A B : List ClassRow) (row : ClassRow) (c h held : ℕ) (before : length A ≡ c) (e : held % 65536 ≡ h % 65536) where
@@ -205,7 +199,7 @@ module _ (table₀ : List ℕ) where
         let low : get_or bytes (5 * c + 2) 0 ≡ row.families % 256 = read 2 l (omega arith) in
         let high : get_or bytes (5 * c + 3) 0 ≡ row.families / 256 % 256 = read 3 l (omega arith) in
         rw (long, rank, low, high)
-        (class_bytes_lem row.long (row.rank % 256 + 1) (row.rank + 1) (row.families % 256 + 256 * (row.families / 256 % 256) + held) (row.families + h)
+        (class_bytes_same row.long (row.rank % 256 + 1) (row.rank + 1) (row.families % 256 + 256 * (row.families / 256 % 256) + held) (row.families + h)
         (omega arith) (families_more row.families h held e))
 
     more_written : more_class bytes c held ≡ written_classes table₀ (A ++ more h row ∷ B)

@@ -1,5 +1,5 @@
-//! The engine's calls for C and Rust, with bonds lent as bytes or as records. A slice passes as a pointer and a length. No call
-//! asks anything of its caller.
+//! The engine's calls for C and Rust: the first call and the call with a family's size, each with bonds lent as bytes or as records. A slice
+//! passes as a pointer and a length. No call asks anything of its caller.
 
 #![tactic(auto)]
 

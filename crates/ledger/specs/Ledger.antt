@@ -7,7 +7,7 @@ use Rattle.bondset.specs.Index.{held_by, fresh_pivot}
 use Rattle.cycles.specs.Family.{Family}
 use Rattle.model.specs.Fold.{through, count}
 use Rattle.model.specs.State.{joined}
-use Rattle.rows.specs.Rows.{put_family, numbered_in, patched}
+use Rattle.rows.specs.Rows.{put_family, numbers_of, numbered_in, patched}
 
 pub record Ledger : Type 0 where
   -- how many rings are marked, and how many of them are shorter than the length in hand
@@ -85,7 +85,7 @@ summed_in f t L =
       tags = L.tags;
       pivots = L.pivots;
       labels = joined L.short L.marks t L.labels;
-      holds = slice_set L.holds j ((slice_index L.holds j + 1) % 2 ^ 64);
+      holds = held L.holds j;
       out = put_family L.out L.families f 0 j;
       table = L.table;
     }
@@ -100,7 +100,7 @@ entered f rest names L =
 -- The end of a length: `first` is the number of families before it.
 unfoldable pub settled_in : ℕ → ℕ → Ledger → Ledger
 settled_in k first L =
-    let s = through (numbered_in k L.holds) (count L.short (L.marks - L.short)) (record { labels = L.labels; classes = L.classes; table = L.table }) in
+    let s = through (numbered_in k L.holds) (count L.short (L.marks - L.short)) (numbers_of L.labels L.classes L.table) in
     record {
       marks = L.marks;
       short = L.marks;

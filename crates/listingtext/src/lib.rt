@@ -1,7 +1,7 @@
 //! The listing as text: what the listing program prints for an answer or a refusal.
 //!
-//! The bytes are those of `specs/Listing.antt`. They are stored from the start of a lent buffer on, and the buffer's other bytes stay as
-//! lent. A caller lends as much room as the lines can take.
+//! The bytes are those of `specs/Listing.antt`. They are stored in a lent buffer, by a `Page` from its place on, and the buffer's other bytes
+//! stay as lent. A caller lends as much room as the lines can take.
 
 #![tactic(auto)]
 

@@ -1,6 +1,6 @@
 -- The loop over the neighbours that are nearer to the top: what is left to be written makes the whole.
 use mathlib.Core.Path.{◌≡◌, refl, sym, ap, ap₂, ◌∙◌}
-use mathlib.Core.List.{List, [], ◌∷◌, ◌++◌, map, append-nil}
+use mathlib.Core.List.{List, [], ◌∷◌, ◌++◌, map, append-nil, map-append}
 use Prim.Native.Nat.{ℕ, zero, suc, ◌+◌, ◌-◌, ◌*◌, ◌/◌, ◌<◌, ◌≤◌}
 use native.Mathlib.Nat.{mul-le-mul_right}
 use native.Mathlib.Omega.{arith}
@@ -42,10 +42,6 @@ map_xor : (a b : ℕ) (L : List ℕ) → map (bit_xor a) (map (bit_xor b) L) ≡
 map_xor a b [] = refl
 map_xor a b (x ∷ L) = ap₂ (λ (y : ℕ) (l : List ℕ). y ∷ l) (sym (xor_assoc a b x)) (map_xor a b L)
 
-map_append : (f : ℕ → ℕ) (xs ys : List ℕ) → map f (xs ++ ys) ≡ map f xs ++ map f ys
-map_append f [] ys = refl
-map_append f (x ∷ xs) ys = ap (λ (l : List ℕ). f x ∷ l) (map_append f xs ys)
-
 module _ (G : Net) (us : List ℕ) (e t path : ℕ) where
   -- The sets of the paths through the atoms that are left, `path` and all.
   unfoldable pub left : List ℕ → List ℕ
@@ -55,7 +51,7 @@ module _ (G : Net) (us : List ℕ) (e t path : ℕ) where
   unfolding left each
   all_left [] = refl
   all_left (s ∷ L) =
-      map_append (bit_xor path) (map (bit_xor (bond G t s)) (path_sets G us e s)) _
+      map-append (bit_xor path) (map (bit_xor (bond G t s)) (path_sets G us e s)) _
       ∙ ap₂ (λ (x y : List ℕ). x ++ y) (map_xor path (bond G t s) (path_sets G us e s)) (all_left L)
 
   left_start : map (bit_xor path) (path_sets G us (suc e) t) ≡ left (members 64 (nearer G us e t))

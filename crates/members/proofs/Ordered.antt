@@ -20,12 +20,12 @@ use Rattle.model.specs.Net.{Net, net_of, bond}
 use Rattle.model.specs.State.{link}
 use Rattle.model.proofs.Ready.{held, Ready, Layered}
 use Rattle.model.proofs.Walks.{Linked, candidate_linked}
-use Rattle.model.proofs.ItemsLists.{∈_each, from_each}
+use Rattle.model.proofs.ItemsLists.{∈_each, from_each, map_each}
 use Rattle.paths.specs.Nets.{net}
 use Rattle.std.specs.Prelude.{Option, Some, None}
 use Rattle.members.specs.Listed.{nearer, path_sets, sums, member_sets, Told}
 use Rattle.members.specs.Ordered.{Sooner, Rising, Members}
-use Rattle.members.proofs.Routes.{Climb, climb_map, climb_each, Image, from_map, in_map, map_each, each_same}
+use Rattle.members.proofs.Routes.{Climb, climb_map, climb_each, Image, from_map, in_map, each_same}
 use Rattle.members.proofs.Routes.{Route, routes, routes_sets, routes_climb, routes_go, routes_all}
 
 -- ---- the order
@@ -135,8 +135,8 @@ pairs_sums : (l : ℕ) (vs ws : List Route)
     → map (λ (x : Pair). x.ring) (pairs l vs ws) ≡ sums (map (λ (w : Route). w.bonds) vs) (sums (map (λ (w : Route). w.bonds) ws) (l ∷ []))
 unfolding sums
 pairs_sums l vs ws =
-    map_each (λ (x : Pair). x.ring) (λ v. map (pair l v) ws) vs
-    ∙ each_same _ _ (λ v. map-map (λ (x : Pair). x.ring) (pair l v) ws
+    map_each (λ (x : Pair). x.ring) (λ v. map (pair l v) ws) _
+    (λ v. map-map (λ (x : Pair). x.ring) (pair l v) ws
     ∙ sym (map-map (bit_xor v.bonds) (λ (w : Route). bit_xor w.bonds l) ws)
     ∙ ap (map (bit_xor v.bonds)) (sym (each_map (λ (Q : ℕ). bit_xor Q l ∷ []) (λ (w : Route). w.bonds) ws ∙ each_one (λ (w : Route). bit_xor w.bonds l) ws))) vs
     ∙ sym (each_map (λ P. map (bit_xor P) (each (λ Q. bit_xor Q l ∷ []) (map (λ (w : Route). w.bonds) ws))) (λ (w : Route). w.bonds) vs)

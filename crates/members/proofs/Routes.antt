@@ -19,7 +19,7 @@ use Rattle.model.specs.Net.{Net, net_of, bond}
 use Rattle.model.proofs.Ready.{held, Ready, DownFrom, Layered}
 use Rattle.model.proofs.Layers.{bonded_sym, bond_joins}
 use Rattle.model.proofs.Walks.{mask_has}
-use Rattle.model.proofs.ItemsLists.{∈_each, from_each}
+use Rattle.model.proofs.ItemsLists.{map_each, ∈_each, from_each}
 use Rattle.model.proofs.ItemsCandidates.{bonded_small, down_small}
 use Rattle.members.specs.Listed.{nearer, path_sets}
 
@@ -78,15 +78,6 @@ climb_each from key f less climb none = none
 climb_each from key f less climb (next {x} {xs} before rest) =
     climb_append key (climb x) (climb_each from key f less climb rest) (λ y z m n. let w = from_each f xs n in less x w.a y z (before w.a w.mem) m w.here)
 
-map_append : {X Y : Type 0} (g : X → Y) (xs ys : List X) → map g (xs ++ ys) ≡ map g xs ++ map g ys
-map_append g [] ys = refl
-map_append g (x ∷ xs) ys = ap (λ (l : List _). g x ∷ l) (map_append g xs ys)
-
-pub map_each : {A X Y : Type 0} (g : X → Y) (f : A → List X) (those : List A) → map g (each f those) ≡ each (λ a. map g (f a)) those
-unfolding each
-map_each g f [] = refl
-map_each g f (a ∷ those) = map_append g (f a) (each f those) ∙ ap (λ (l : List _). map g (f a) ++ l) (map_each g f those)
-
 pub each_same : {A X : Type 0} (f g : A → List X) → ((a : A) → f a ≡ g a) → (those : List A) → each f those ≡ each g those
 unfolding each
 each_same f g same [] = refl
@@ -117,8 +108,8 @@ module _ (G : Net) (us : List ℕ) where
   unfolding routes path_sets
   routes_sets zero t = refl
   routes_sets (suc e) t =
-      map_each (λ (w : Route). w.bonds) (λ s. map (longer G t s) (routes e s)) (members 64 (nearer G us e t))
-      ∙ each_same _ _ (λ s. map-map (λ (w : Route). w.bonds) (longer G t s) (routes e s)
+      map_each (λ (w : Route). w.bonds) (λ s. map (longer G t s) (routes e s)) _
+      (λ s. map-map (λ (w : Route). w.bonds) (longer G t s) (routes e s)
       ∙ sym (map-map (bit_xor (bond G t s)) (λ (w : Route). w.bonds) (routes e s))
       ∙ ap (map (bit_xor (bond G t s))) (routes_sets e s)) (members 64 (nearer G us e t))
 

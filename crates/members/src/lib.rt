@@ -1,4 +1,7 @@
 //! The rings of a family, written out: the paths to the top counted, and listed by recursion on the distance.
+//!
+//! Promises: `rings` writes exactly the sets of `member_sets`, one after another, where there are places for all of them, and nothing where there
+//! are not; `specs/Listed.antt` says which sets these are and in which order. No call of the archive uses it yet.
 
 #![tactic(auto)]
 
@@ -60,8 +63,8 @@ fn block(rings: &mut [u8], set: BondSet, from: usize, count: usize, at: usize)
 }
 
 /// For each path from atom `t` to the top, with one atom of each of the `layers`, adds its bonds and those of the set `lo`, `hi` to the sets of
-/// the last `count` places, and puts the sums one after another from place `at` on; answers the place behind them. Few parameters, and numbers
-/// rather than structs: a level of the recursion is to take little stack.
+/// the last `count` places, and puts the sums one after another from place `at` on; answers the place behind them. The set is two
+/// numbers and not a struct: a level of the recursion is to take little stack.
 fn list(
     net: &Net,
     layers: &[u64],

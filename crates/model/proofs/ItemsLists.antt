@@ -1,6 +1,6 @@
 -- Loops within loops are one loop over one list; what is in that list, and that it ascends.
-use mathlib.Core.Path.{◌≡◌, refl, sym, ap, ◌∙◌}
-use mathlib.Core.List.{List, [], ◌∷◌, ◌++◌, map}
+use mathlib.Core.Path.{◌≡◌, refl, sym, ap, ap₂, ◌∙◌}
+use mathlib.Core.List.{List, [], ◌∷◌, ◌++◌, map, map-append}
 use mathlib.Core.Logic.{⊎_elim}
 use Prim.Native.Nat.{ℕ, ◌<◌}
 use Rattle.spans.specs.Elements.{◌∈◌, first, later}
@@ -32,6 +32,15 @@ module _ {C S : Type 0} (step : C → S → S) where
   unfolding through
   through_map f [] s = refl
   through_map f (a ∷ rest) s = through_map f rest (step (f a) s)
+
+-- ---- mapped lists
+
+-- What is mapped in each of the lists is mapped in all of them together.
+module _ {A B C : Type 0} (f : B → C) (g : A → List B) (h : A → List C) (same : (a : A) → map f (g a) ≡ h a) where
+  pub map_each : (over : List A) → map f (each g over) ≡ each h over
+  unfolding each
+  map_each [] = refl
+  map_each (a ∷ rest) = map-append f (g a) (each g rest) ∙ ap₂ ◌++◌ (same a) (map_each rest)
 
 -- ---- what is in a list
 

@@ -3,8 +3,8 @@
 //! A compound stands in lent words: the neighbours of each atom as a set of atoms (`adj`, one word an atom), the bonds at each atom as a bond
 //! set (`touch`, two words an atom), and the layers under a top atom (`layers`, one set of atoms a distance, the top first).
 //!
-//! Promises: the bonds of two chosen paths walked in step are exactly what the engine's plan in `model` says, for any such words. Paths that
-//! meet below the top give the empty set.
+//! Promises: the bond between two atoms, the link of a family and the bonds of two chosen paths walked in step are exactly what the engine's
+//! plan in `model` says, for any such words. Paths that meet below the top give the empty set.
 
 #![tactic(auto)]
 

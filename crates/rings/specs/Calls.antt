@@ -73,7 +73,7 @@ pub record Fit (found : Found) (row_bytes class_bytes rings : ℕ) : Type 0 wher
   pub classes : found.classes ≤ class_bytes / 5
   pub rings_are : found.rings ≡ Some rings
 
--- It is the first of 7 to 9 that holds.
+-- The refusal is the first of 7 to 9 that holds.
 pub data Unfit (found : Found) (row_bytes class_bytes : ℕ) : Refusal → Type 0 where
   few_rows : min (row_bytes / 8) 4096 < found.families → Unfit found row_bytes class_bytes (FewRows found.families)
   few_class_rows : found.families ≤ min (row_bytes / 8) 4096 → class_bytes / 5 < found.classes

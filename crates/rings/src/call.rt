@@ -1,5 +1,5 @@
 //! One call: the input is refused, or the engine runs and what it found is refused or delivered.
-ghost use Rattle.std.specs.Prelude.{◌≡◌, ◌+◌, ◌/◌, ◌≤◌, length, replicate, OnOk, IfOk, IfErr};
+ghost use Rattle.std.specs.Prelude.{◌≡◌, replicate, OnOk, IfOk, IfErr};
 ghost use Rattle.reading.specs.Reading.{compound};
 ghost use Rattle.engine.specs.Reports.{Stands, Reports};
 ghost use Rattle.rings.specs.Calls.{Names, Within, RefusedBy, Fit, Unfit, full_of, Fitting, Delivered, Answers};

@@ -21,16 +21,14 @@ class_bytes k rank families = k ∷ rank % 256 ∷ families % 256 ∷ families /
 abbrev pub put_class : List ℕ → ℕ → ℕ → ℕ → ℕ → List ℕ
 put_class table c k rank families = cond (ltb c (length table / 5)) (paste table (5 * c) (class_bytes k rank families) 5) table
 
--- The row of class c, if there is room for it: new, with so many families, or with one marked ring more and its families.
+-- Class row c, new, of one marked ring and so many families.
 unfoldable pub open_class : List ℕ → ℕ → ℕ → ℕ → List ℕ
-open_class table c k held = cond (ltb c (length table / 5)) (paste table (5 * c) (class_bytes k 1 held) 5) table
+open_class table c k held = put_class table c k 1 held
 
+-- Class row c with one marked ring more, and its families.
 unfoldable pub more_class : List ℕ → ℕ → ℕ → List ℕ
 more_class table c held =
-    cond (ltb c (length table / 5))
-    (paste table (5 * c)
-    (class_bytes (get_or table (5 * c) 0) (get_or table (5 * c + 1) 0 + 1) (get_or table (5 * c + 2) 0 + 256 * get_or table (5 * c + 3) 0 + held)) 5)
-    table
+    put_class table c (get_or table (5 * c) 0) (get_or table (5 * c + 1) 0 + 1) (get_or table (5 * c + 2) 0 + 256 * get_or table (5 * c + 3) 0 + held)
 
 pub record Numbers : Type 0 where
   pub labels : List ℕ

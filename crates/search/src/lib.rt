@@ -1,7 +1,7 @@
 //! Searches from an atom through the compound, one distance after the other.
 //!
 //! A search tells whether all atoms hang together, and which atoms stand under a top atom at each distance. Each function promises what the
-//! model of the same name computes, and nothing of how: the inside of a search may change and no caller notices.
+//! plan in `model` computes, and nothing of how: the inside of a search may change and no caller notices.
 
 #![tactic(auto)]
 
