@@ -1,8 +1,8 @@
 //! Sets of atoms as words, the neighbours of a set, which atoms precede another, and a compound as the engine holds it.
 //!
-//! Atom k is in a set if bit k of the word is 1. `above`, `two`, `near`, `preceding` and `Net::tops` promise what the model of the same name
-//! computes, for any words; `each` goes through the atoms of a set from the lowest on. That an atom precedes another is said in one place,
-//! `preceding`, by the number of the atom.
+//! Atom k is in a set if bit k of the word is 1. `above`, `two`, `near`, `preceding`, `Net::tops` and `View::tops` promise what the model of the
+//! same name computes, for any words; `each` goes through the atoms of a set from the lowest on. That an atom precedes another is said in one
+//! place, `preceding`, by the number of the atom.
 
 #![tactic(auto)]
 
@@ -15,7 +15,7 @@ use bondset::{Each, WordSet};
 
 mod nets;
 
-pub use nets::Net;
+pub use nets::{Net, View};
 
 /// The atoms of the set one by one.
 pub fn each(s: u64) -> Each<u64>

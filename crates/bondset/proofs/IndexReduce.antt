@@ -16,7 +16,7 @@ use Rattle.spans.specs.Elements.{◌∈◌, first, later}
 use Rattle.bondset.specs.Sets.{bit, has, members, Climbs, next}
 use Rattle.bondset.specs.Rows.{row_at}
 use Rattle.bondset.specs.Reduction.{Reduces}
-use Rattle.bondset.specs.Index.{Fresh, Indexed, add_within, add_held, add_placed, late_rest, late_used, AddsPlaced, AddsLate}
+use Rattle.bondset.specs.Index.{Fresh, Indexed, Reaches, add_within, add_held, add_placed, late_rest, late_used, AddsPlaced, AddsLate}
 use Rattle.bondset.proofs.Laws.{lt_or_ge, bit_lt, bit_xor_lem, bit_and_lem, bit_beyond, differ_zero}
 use Rattle.bondset.proofs.Members.{mem_of_bit, bit_of_mem, members_climb}
 use Rattle.bondset.proofs.ReductionLinear.{Same, same_add, same_done}
@@ -130,12 +130,12 @@ module _ {rows pivots place : List ℕ} {fresh late all n : ℕ} (ix : Indexed r
       placed_pending bs (add_within rows from to (get_or place b 0) s) c (λ b m. e b (later m)) (pending_step b bs s (e b first) above p)
 
   -- the hits of a set are its fresh bonds
-  hits_pending : (s : ℕ) → s < 2 ^ 128 → Pending (members 128 (bit_and s fresh)) s
+  hits_pending : (s : ℕ) → fresh < 2 ^ 128 → Pending (members 128 (bit_and s fresh)) s
   hits_pending s small =
       record {
         held = λ j l h f m. low s (get_or pivots j 0) f.among (bit_of_mem 128 (bit_and s fresh) (get_or pivots j 0) m);
         gone = λ j l h f out. not_one s (get_or pivots j 0) (λ e.
-            out (mem_of_bit 128 (bit_and s fresh) (get_or pivots j 0) (bond_lt 128 s (get_or pivots j 0) small e)
+            out (mem_of_bit 128 (bit_and s fresh) (get_or pivots j 0) (bond_lt 128 fresh (get_or pivots j 0) small f.among)
             (bit_and_lem s fresh (get_or pivots j 0) ∙ ap₂ min e f.among)));
       }
     where
@@ -245,14 +245,14 @@ module _ {rows pivots place : List ℕ} {fresh late all n : ℕ} (ix : Indexed r
         same_trans (same_held i s u) (same_late is (add_held rows pivots from to s i s) (add_held tags pivots from to s i u))
 
     -- The hits, and then the late rows: the same rest and the same tags as the rows in order.
-    pub reduces_indexed : n ≤ 128 → (s u : ℕ) → s < 2 ^ 128
+    pub reduces_indexed : fresh < 2 ^ 128 → late < 2 ^ 128 → (s u : ℕ)
         → Reduces rows tags pivots from to s u
         (late_rest rows pivots from to (members 128 late) (add_placed rows place from to (members 128 (bit_and s fresh)) s))
         (late_used rows tags pivots from to (members 128 late) (add_placed rows place from to (members 128 (bit_and s fresh)) s)
         (add_placed tags place from to (members 128 (bit_and s fresh)) u))
-    reduces_indexed few s u fits =
+    reduces_indexed fits fits' s u =
         same_done (same_trans (same_placed hits s u) (same_late lates t (add_placed tags place from to hits u)))
-        (λ j l h. late_lacking lates t (members_climb 128 late) (λ i m. ix.within i (bit_of_mem 128 late i m)) (λ j e. inl (mem_of_bit 128 late j (lt_of_lt_of_le (ix.within j e) few) e))
+        (λ j l h. late_lacking lates t (members_climb 128 late) (λ i m. ix.within i (bit_of_mem 128 late i m)) (λ j e. inl (mem_of_bit 128 late j (bond_lt 128 late j fits' e) e))
         (λ j l h out. at_first j l h out (ix.split j (lt_of_lt_of_le h enough))) j l h (λ m. elim m [ ]))
       where
         hits : List ℕ
@@ -271,15 +271,15 @@ module _ {rows pivots place : List ℕ} {fresh late all n : ℕ} (ix : Indexed r
             right b m = omega (arith, bit_lt fresh b, sym m ∙ bit_and_lem s fresh b)
 
         at_first : (j : ℕ) → from ≤ j → j < to → (j ∈ lates → ⊥) → (bit late j ≡ 1) ⊎ Fresh rows pivots place fresh n j → bit t (get_or pivots j 0) ≡ 0
-        at_first j l h out (inl e) = absurd (out (mem_of_bit 128 late j (lt_of_lt_of_le (ix.within j e) few) e))
+        at_first j l h out (inl e) = absurd (out (mem_of_bit 128 late j (bond_lt 128 late j fits' e) e))
         at_first j l h out (inr f) = settled.gone j l h f (λ m. elim m [ ])
 
 -- the same of what the two loops leave
-pub reduces_by : {rows tags pivots place : List ℕ} {fresh late all from to n : ℕ} → Indexed rows pivots place fresh late all n → to ≤ n → n ≤ 128
-    → {hits s u t w x y : ℕ} → s < 2 ^ 128 → hits ≡ bit_and s fresh → AddsPlaced rows tags place from to (members 128 hits) s u t w
+pub reduces_by : {rows tags pivots place : List ℕ} {fresh late all from to : ℕ} → Reaches rows pivots place fresh late all to → fresh < 2 ^ 128 → late < 2 ^ 128
+    → {hits s u t w x y : ℕ} → hits ≡ bit_and s fresh → AddsPlaced rows tags place from to (members 128 hits) s u t w
     → AddsLate rows tags pivots from to (members 128 late) t w x y → Reduces rows tags pivots from to s u x y
-reduces_by {rows} {tags} {pivots} {place} {fresh} {late} {all} {from} {to} {n} ix enough few {hits} {s} {u} {t} {w} {x} {y} fits e p q =
-    let so = reduces_indexed ix from to enough tags few s u fits in
+reduces_by {rows} {tags} {pivots} {place} {fresh} {late} {all} {from} {to} r fits fits' {hits} {s} {u} {t} {w} {x} {y} e p q =
+    let so = reduces_indexed r.indexed from to r.enough tags fits fits' s u in
     let a : t ≡ add_placed rows place from to (members 128 (bit_and s fresh)) s = p.rest ∙ ap (λ (h : ℕ). add_placed rows place from to (members 128 h) s) e in
     let b : w ≡ add_placed tags place from to (members 128 (bit_and s fresh)) u = p.used ∙ ap (λ (h : ℕ). add_placed tags place from to (members 128 h) u) e in
     record {

@@ -1,6 +1,6 @@
 -- Finding the rows of a reduction by their pivots. Besides rows, tags and pivots there is a place for each bond, and an index of three sets:
 -- `fresh`, pivots that no other row holds; `late`, the numbers of the rows whose pivot is not fresh; `all`, the bonds of all rows.
-use Rattle.std.specs.Prelude.{◌≡◌, cond, ◌⊎◌, List, [], ◌∷◌, ℕ, zero, suc, ◌+◌, ◌<◌, eqb, ltb, get_or, set}
+use Rattle.std.specs.Prelude.{◌≡◌, cond, ◌⊎◌, List, [], ◌∷◌, ℕ, zero, suc, ◌+◌, ◌<◌, ◌≤◌, eqb, ltb, get_or, set}
 use Rattle.std.specs.Int.Bits.{bit_xor, bit_and, bit_or}
 use Rattle.std.specs.Int.Count.{count_trailing_zeros}
 use Rattle.bondset.specs.Sets.{bit, has, single}
@@ -34,6 +34,12 @@ pub record Indexed (rows pivots place : List ℕ) (fresh late all n : ℕ) : Typ
   pub split : (i : ℕ) → i < n → (bit late i ≡ 1) ⊎ Fresh rows pivots place fresh n i
   pub back : (b : ℕ) → bit fresh b ≡ 1 → Placed pivots place late n b
   pub within : (i : ℕ) → bit late i ≡ 1 → i < n
+
+-- an index of at least n rows
+pub record Reaches (rows pivots place : List ℕ) (fresh late all n : ℕ) : Type 0 where
+  pub count : ℕ
+  pub enough : n ≤ count
+  pub indexed : Indexed rows pivots place fresh late all count
 
 -- ---- reducing by an index
 

@@ -18,7 +18,7 @@ use Rattle.paths.specs.Nets.{net as net_of}
 use Rattle.paths.proofs.Steps.{link_net, walk_net}
 use Rattle.counting.specs.Counts.{added}
 use Rattle.counting.proofs.WaysNet.{ways_net}
-use Rattle.atoms.specs.declared.nets.Net as atoms
+use Rattle.atoms.specs.declared.nets.View as atoms
 use Rattle.ledger.specs.Ledger.{entered}
 use Rattle.ledger.specs.Held.{ledger_of, Leaves}
 use Rattle.candidates.specs.declared.Going as code
@@ -58,12 +58,12 @@ added_few max (Some n) size rings e = elim (lt_or_ge max (n + size)) [
 
 -- ---- a candidate
 
-module _ (net : atoms.Net) (from : ℕ) (us : List ℕ) (d : ℕ) (f : Family) (before : code.Going) (out sizes : List ℕ) (closing ring rest names : ℕ)
-    (closed : closing ≡ link (net_of [] net.touch) f) (walked : ring ≡ walk (net_of net.adj net.touch) us d f.p f.q closing)
+module _ (net : atoms.View) (from : ℕ) (us : List ℕ) (d : ℕ) (f : Family) (before : code.Going) (out sizes : List ℕ) (closing ring rest names : ℕ)
+    (closed : closing ≡ link (net_of [] net.touch.now) f) (walked : ring ≡ walk (net_of net.adj.now net.touch.now) us d f.p f.q closing)
     (leaves : Leaves before.ledger ring rest names) where
   ring_is : walk (graph net) us d f.p f.q (link (graph net) f) ≡ ring
   ring_is = sym (
-      walked ∙ ap (walk (net_of net.adj net.touch) us d f.p f.q) (closed ∙ link_net (graph net) f)
+      walked ∙ ap (walk (net_of net.adj.now net.touch.now) us d f.p f.q) (closed ∙ link_net (graph net) f)
       ∙ walk_net (graph net) us d f.p f.q (link (graph net) f))
 
   -- Nothing is left of it: it is a sum of shorter rings, or was dropped.
@@ -73,7 +73,7 @@ module _ (net : atoms.Net) (from : ℕ) (us : List ℕ) (d : ℕ) (f : Family) (
 
   -- It is kept: a times b rings.
   pub attempt_kept : eqb rest 0 ≡ false → (a b : ℕ) (after : code.Going) (out' sizes' : List ℕ)
-      → a ≡ ways (net_of net.adj []) us d f.p → b ≡ ways (net_of net.adj []) us d f.q → after.rings ≡ added most before.rings (a * b)
+      → a ≡ ways (net_of net.adj.now []) us d f.p → b ≡ ways (net_of net.adj.now []) us d f.q → after.rings ≡ added most before.rings (a * b)
       → sizes' ≡ put_size from before.ledger.classes.tally.families (size_in after.rings (a * b)) sizes
       → ((table : List ℕ) → ledger_of after.ledger out' table ≡ entered f rest names (ledger_of before.ledger out table))
       → Tries (attempted (graph net) from us d f) before out sizes after out' sizes'

@@ -12,7 +12,7 @@ ghost use Rattle.candidates.specs.Nets.{graph};
 ghost use Rattle.candidates.specs.Cursor.{Within};
 ghost use Rattle.candidates.specs.Engine.{put_size, attempted};
 
-use atoms::Net;
+use atoms::View;
 use bondset::WordSet;
 use cursor::Cursor;
 use ledger::Ledger;
@@ -22,7 +22,7 @@ use rows::Family;
 pub mod cursor;
 
 /// What has been counted so far.
-#[derive(Drop)]
+#[derive(Clone, Copy)]
 pub struct Going {
     /// The marked rings, and the counts of what is kept.
     pub ledger: Ledger,
@@ -50,7 +50,7 @@ impl Going {
     /// A candidate whose p and q are `d` steps below the top: kept, counted and entered if the shorter marked rings leave something of it.
     fn attempt(
         &mut self,
-        net: &Net,
+        net: View,
         layers: &[u64],
         out: &mut [u8],
         sizes: &mut [u64],
@@ -60,16 +60,16 @@ impl Going {
     )
         requires place { Place layers.now d }
         requires within { Within (get_or layers.now d 0) (f.p, f.q, f.x) }
-        ensures { Tries (attempted (graph net.now) from layers.now d (family_of f))
+        ensures { Tries (attempted (graph net.entry) from layers.now d (family_of f))
             self.old out.old sizes.old self.new out.new sizes.new }
     {
-        let link = paths::link(&net.touch, f.p, f.q, f.x);
-        let ring = paths::walk(&net.adj, &net.touch, layers, d, f.p, f.q, link);
+        let link = paths::link(net.touch, f.p, f.q, f.x);
+        let ring = paths::walk(net.adj, net.touch, layers, d, f.p, f.q, link);
         let left = self.ledger.reduce(ring);
         if left.rest.is_empty() {
             return;
         }
-        let ways = counting::ways(&net.adj, layers, &mut self.counts, d, f.p, f.q);
+        let ways = counting::ways(net.adj, layers, &mut self.counts, d, f.p, f.q);
         self.rings = counting::add(self.rings, ways.from_p, ways.from_q);
         let size = match self.rings {
             Some(_) => ways.from_p * ways.from_q,
@@ -82,7 +82,7 @@ impl Going {
     /// All candidates of length `k` with top atom `r`, whose layers are written down to half the length.
     pub fn seek(
         &mut self,
-        net: &Net,
+        net: View,
         layers: &[u64],
         out: &mut [u8],
         sizes: &mut [u64],
@@ -94,11 +94,11 @@ impl Going {
         requires k_bound { k ≤ 64 }
         requires r_bound { r < 64 }
         requires place { Place layers.now (k / 2) }
-        ensures { Tries (seek_of (graph net.now) (attempted (graph net.now) from) k r layers.now)
+        ensures { Tries (seek_of (graph net.entry) (attempted (graph net.entry) from) k r layers.now)
             self.old out.old sizes.old self.new out.new sizes.new }
     {
         let d = (k - 1) / 2;
-        for (p, q, x) in Cursor::first(&net.adj, layers, k) {
+        for (p, q, x) in Cursor::first(net.adj, layers, k) {
             let f = Family { k, r, p, q, x };
             self.attempt(net, layers, out, sizes, from, d, f);
         }

@@ -5,8 +5,10 @@
 
 #![tactic(auto)]
 
-ghost use Rattle.std.specs.Prelude.{◌≡◌, ◌==◌, ◌<◌};
+ghost use Rattle.std.specs.Prelude.{◌≡◌, ◌==◌, ◌<◌, ◌≤◌, length};
 ghost use Rattle.std.specs.List.{before_first, after_first};
+
+use std::io;
 
 /// A named case.
 #[derive(Clone, Copy)]
@@ -15,6 +17,39 @@ pub struct Case<'a> {
     pub name: &'a str,
     /// What it is run on.
     pub body: &'a str,
+}
+
+/// The places of a table's first case.
+#[derive(Clone, Copy)]
+pub struct Places {
+    /// Where its name ends.
+    pub name: usize,
+    /// Where what it is run on starts.
+    pub from: usize,
+    /// Where that ends. The next case starts one byte on.
+    pub to: usize,
+}
+
+// The first place of a byte in a text, or the text's length.
+fn place(text: &[u8], byte: u8) -> usize
+    ensures { result ≤ length text.now }
+{
+    text.iter().position(|b| *b == byte).unwrap_or(text.len())
+}
+
+/// The places of a table's first case, within the table and in their order. The table is any bytes, where `Cases` takes a text.
+pub fn first(table: &[u8]) -> Places
+    ensures name_le_from { result.name ≤ result.from }
+    ensures from_le_to { result.from ≤ result.to }
+    ensures to_in_bounds { result.to ≤ length table.now }
+{
+    let to = place(table, b'~');
+    let name = place(&table[..to], b'|');
+    Places {
+        name,
+        from: to.min(name + 1),
+        to,
+    }
 }
 
 /// The cases of a table, in their order.
@@ -49,4 +84,10 @@ impl<'a> Iterator for Cases<'a> {
         let (name, body) = cut(row, '|');
         Some(Case { name, body })
     }
+}
+
+/// Prints a word and a number, each in one piece: a pipe that is nearly full takes a piece whole or not at all.
+pub fn say(rt: &impl Print, word: &[u8], number: u64) -> io::Result<()> {
+    rt.write_all(word)?;
+    rt.print(number)
 }

@@ -127,6 +127,7 @@ pub fn ways(
 }
 
 /// The count with `a` times `b` rings more: none once there are more than a word can say.
+#[tactic(auto, using(crate::proofs::Added::added_past, crate::proofs::Added::added_some), unfolding(crate::specs::Counts::added))]
 pub fn add(count: Option<u64>, a: u64, b: u64) -> Option<u64>
     ensures { result ≡ added (2 ^ 64 - 1) count (a * b) }
 {

@@ -12,7 +12,8 @@ use std::io;
 fn say_bonds(rt: &impl Print, bonds: &[u8; 510], count: usize) -> io::Result<()> {
     let (bonds, _) = bonds.as_chunks::<2>();
     for [a, b] in bonds.iter().take(count.min(4)) {
-        print!(rt; " {a}-{b}")?;
+        cases::say(rt, b" ", u64::from(*a))?;
+        cases::say(rt, b"-", u64::from(*b))?;
     }
     Ok(())
 }
@@ -20,15 +21,16 @@ fn say_bonds(rt: &impl Print, bonds: &[u8; 510], count: usize) -> io::Result<()>
 // One case.
 fn run(rt: &impl Print, name: &str, text: &[u8]) -> io::Result<()> {
     let mut bonds = [0u8; 510];
-    print!(rt; "{name}")?;
+    rt.write_all(name.as_bytes())?;
     match housetext::read(text, &mut bonds) {
         Ok(said) => {
-            print!(rt; ": atoms={} bonds={}", said.atoms, said.bonds)?;
+            cases::say(rt, b": atoms=", said.atoms as u64)?;
+            cases::say(rt, b" bonds=", said.bonds as u64)?;
             say_bonds(rt, &bonds, said.bonds)?;
         }
-        Err(departure) => print!(rt; ": refused=10 at={}", departure.line)?,
+        Err(departure) => cases::say(rt, b": refused=10 at=", departure.line as u64)?,
     }
-    println!(rt)
+    rt.write_all(b"\n")
 }
 
 // Runs all cases of a table.

@@ -14,6 +14,7 @@ use Rattle.model.specs.Net.{net_of}
 use Rattle.model.specs.Run.{report}
 use Rattle.model.proofs.NetRead.{get_or_zeros}
 use Rattle.atoms.specs.declared.nets.Net as code
+use Rattle.atoms.specs.declared.nets.View.{View}
 use Rattle.candidates.specs.Nets.{graph}
 use Rattle.candidates.specs.Engine.{Engine}
 use Rattle.engine.specs.declared.Found.{Found}
@@ -55,17 +56,19 @@ sizes_over_zeros from k rows j h =
 
 -- ---- a run
 
-stands_net : {c : Compound} {net : code.Net} → Stands c net → graph net ≡ net_of c
+-- A net that stands is, as it is lent, that of the compound.
+stands_net : {c : Compound} {net : code.Net} (view : View) → Stands c net → view.n ≡ net.n → view.adj.now ≡ net.adj
+    → view.touch.now ≡ net.touch → graph view ≡ net_of c
 unfolding net_of
-stands_net s = rw (s.atoms, s.neighbours, s.bonds)
+stands_net view s n adj touch = rw (n, adj, touch, s.atoms, s.neighbours, s.bonds)
 
 -- A run on an accepted compound reports it.
-pub run_reports : {c : Compound} {net : code.Net} {from full : ℕ} {out table sizes out' table' sizes' : List ℕ} {r : Found}
-    → Stands c net → full ≡ cyclomatic c → Runs (graph net) from full out table sizes r out' table' sizes'
-    → Reports c from out table sizes r out' table' sizes'
-run_reports {c} {net} {from} {full} {out} {table} {sizes} {out'} {table'} {sizes'} {r} s e runs =
+pub run_reports : {c : Compound} {net : code.Net} (view : View) {from full : ℕ} {out table sizes out' table' sizes' : List ℕ} {r : Found}
+    → Stands c net → view.n ≡ net.n → view.adj.now ≡ net.adj → view.touch.now ≡ net.touch → full ≡ cyclomatic c
+    → Runs (graph view) from full out table sizes r out' table' sizes' → Reports c from out table sizes r out' table' sizes'
+run_reports {c} {net} view {from} {full} {out} {table} {sizes} {out'} {table'} {sizes'} {r} s n adj touch e runs =
     let E : Engine = run_by (net_of c) from (cyclomatic c) out table sizes in
-    let run : Runs (net_of c) from (cyclomatic c) out table sizes r out' table' sizes' = rw (stands_net s, e) at runs in
+    let run : Runs (net_of c) from (cyclomatic c) out table sizes r out' table' sizes' = rw (stands_net view s n adj touch, e) at runs in
     let ran : Ran out table sizes from (report c) E = engine_ran c s.accepted out table sizes from in
     record {
       families = run.families ∙ ran.families;

@@ -12,7 +12,7 @@ use Rattle.model.specs.Net.{Net, preceding}
 use Rattle.model.specs.Layer.{layers_into}
 use Rattle.model.specs.Loops.{Running, running, seek, top_loop, length_loop, length_round}
 use Rattle.atoms.specs.Nets.{neighbours}
-use Rattle.atoms.specs.declared.nets.Net as code
+use Rattle.atoms.specs.declared.nets.View as code
 use Rattle.atoms.proofs.Loops.{Upto, upto_start, upto_next}
 use Rattle.search.proofs.Same.{layers_into_same}
 use Rattle.ledger.specs.Ledger.{Ledger, settled_in, unmarked}
@@ -20,14 +20,15 @@ use Rattle.candidates.specs.declared.Going.{Going}
 use Rattle.candidates.specs.Nets.{graph}
 use Rattle.candidates.specs.Engine.{Engine, attempted}
 use Rattle.candidates.specs.Going.{engine_of, Tries}
+use Rattle.engine.specs.declared.Found.{Found}
 use Rattle.engine.specs.declared.lengths.Running as run
 use Rattle.engine.specs.Lengths.{settled_by, round_by, begun, run_by, running_of, Runs}
 
 -- ---- one top atom
 
 -- The layers are written, and then the candidates are tried.
-pub top_is : (net : code.Net) (from k r : ℕ) {before after : Going} (us out table sizes : List ℕ) {us' out' sizes' : List ℕ}
-    → us' ≡ layers_into (neighbours net.adj) (preceding r) r (k / 2) us
+pub top_is : (net : code.View) (from k r : ℕ) {before after : Going} (us out table sizes : List ℕ) {us' out' sizes' : List ℕ}
+    → us' ≡ layers_into (neighbours net.adj.now) (preceding r) r (k / 2) us
     → Tries (seek (graph net) (attempted (graph net) from) k r us') before out sizes after out' sizes'
     → running us' (engine_of after out' table sizes') ≡ top_loop (graph net) (attempted (graph net) from) preceding k r (running us (engine_of before out table sizes))
 unfolding top_loop
@@ -79,11 +80,15 @@ run_start step e = rw e (upto_start step 3 _)
 pub run_is : (G : Net) (from full : ℕ) (t : run.Running) {out table sizes out' table' sizes' : List ℕ}
     → running_of t out' table' sizes' ≡ through (round_by G from full) (count 3 (G.n - 2)) (running (replicate 33 0) (begun out table sizes))
     → let tally = t.going.ledger.classes.tally in
-    Runs G from full out table sizes (record { families = tally.families; classes = tally.classes; total = tally.total; rings = t.going.rings }) out' table' sizes'
+    let found : Found =
+    record { marks = tally.marks; short = tally.short; families = tally.families; classes = tally.classes; total = tally.total; rings = t.going.rings } in
+    Runs G from full out table sizes found out' table' sizes'
 unfolding run_by
 run_is G from full t {out} {table} {sizes} {out'} {table'} {sizes'} all =
     let tally = t.going.ledger.classes.tally in
     record {
+      marks = ap (λ (E : Engine). E.ledger.marks) is;
+      short = ap (λ (E : Engine). E.ledger.short) is;
       families = ap (λ (E : Engine). E.ledger.families) is;
       classes = ap (λ (E : Engine). E.ledger.classes) is;
       total = ap (λ (E : Engine). E.ledger.total) is;
@@ -91,7 +96,7 @@ run_is G from full t {out} {table} {sizes} {out'} {table'} {sizes'} all =
       rows = ap (λ (E : Engine). E.ledger.out) is;
       class_rows = ap (λ (E : Engine). E.ledger.table) is;
       sized = ap (λ (E : Engine). E.sizes) is;
-      few_marks = omega (arith, ap (λ (E : Engine). E.ledger.marks) is, tally.marks_fit);
+      few_marks = tally.marks_fit;
       few_classes = omega (arith, tally.classes_fit, tally.short_fit, tally.marks_fit);
     }
   where

@@ -32,6 +32,8 @@ running_of s out table sizes = running s.layers (engine_of s.going out table siz
 
 -- All lengths were tried and settled, from nothing: what was found, and the buffers.
 pub record Runs (G : Net) (from full : ℕ) (out table sizes : List ℕ) (r : Found) (out' table' sizes' : List ℕ) : Type 0 where
+  pub marks : r.marks ≡ (run_by G from full out table sizes).ledger.marks
+  pub short : r.short ≡ (run_by G from full out table sizes).ledger.short
   pub families : r.families ≡ (run_by G from full out table sizes).ledger.families
   pub classes : r.classes ≡ (run_by G from full out table sizes).ledger.classes
   pub total : r.total ≡ (run_by G from full out table sizes).ledger.total
@@ -39,5 +41,5 @@ pub record Runs (G : Net) (from full : ℕ) (out table sizes : List ℕ) (r : Fo
   pub rows : out' ≡ (run_by G from full out table sizes).ledger.out
   pub class_rows : table' ≡ (run_by G from full out table sizes).ledger.table
   pub sized : sizes' ≡ (run_by G from full out table sizes).sizes
-  pub few_marks : (run_by G from full out table sizes).ledger.marks ≤ 82
+  pub few_marks : r.marks ≤ 82
   pub few_classes : r.classes ≤ 82

@@ -9,7 +9,7 @@ ghost use Rattle.candidates.specs.Going.{Place};
 ghost use Rattle.engine.specs.Lengths.{Runs};
 
 use crate::Found;
-use atoms::Net;
+use atoms::View;
 use candidates::Going;
 use ledger::Ledger;
 
@@ -17,14 +17,14 @@ use ledger::Ledger;
 #[derive(Clone, Copy)]
 struct Task<'a> {
     /// The compound.
-    net: &'a Net,
+    net: View<'a>,
     /// The atoms that can be top atoms.
     tops: u64,
     /// The cyclomatic number: once so many rings are marked, no more are.
     full: usize,
     /// The first row whose size is asked for.
     from: usize,
-    ghost all_tops: { tops ≡ tops_of (graph net.now) preceding },
+    ghost all_tops: { tops ≡ tops_of (graph net) preceding },
 }
 
 /// Writes the layers 0 to `depth` under `r`.
@@ -57,14 +57,14 @@ impl Running {
         requires le_k { 3 ≤ k }
         requires k_bound { k ≤ 64 }
         ensures { running_of self.new out.new table.new sizes.new
-            ≡ round_by (graph task.now.net.now) task.now.from task.now.full k (running_of self.old out.old table.old sizes.old) }
+            ≡ round_by (graph task.now.net) task.now.from task.now.full k (running_of self.old out.old table.old sizes.old) }
     {
         if self.going.ledger.classes.tally.marks >= task.full {
             return;
         }
         let first = self.going.ledger.classes.tally.families;
         for r in atoms::each(task.tops) {
-            lay(&task.net.adj, r, k / 2, &mut self.layers);
+            lay(task.net.adj, r, k / 2, &mut self.layers);
             self.going
                 .seek(task.net, &self.layers, out, sizes, task.from, k, r);
         }
@@ -75,14 +75,14 @@ impl Running {
 /// All lengths of a compound, from nothing, until `full` rings are marked: family rows into `out`, class rows into `table`, and the sizes of
 /// the families from row `from` on into `sizes`.
 pub fn run(
-    net: &Net,
+    net: View,
     full: usize,
     from: usize,
     out: &mut [u8],
     table: &mut [u8],
     sizes: &mut [u64],
 ) -> Found
-    ensures { Runs (graph net.now) from full out.old table.old sizes.old
+    ensures { Runs (graph net.entry) from full out.old table.old sizes.old
         result out.new table.new sizes.new }
 {
     let task = Task {
@@ -104,6 +104,8 @@ pub fn run(
     }
     let tally = running.going.ledger.classes.tally;
     Found {
+        marks: tally.marks,
+        short: tally.short,
         families: tally.families,
         classes: tally.classes,
         total: tally.total,

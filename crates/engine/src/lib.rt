@@ -17,6 +17,10 @@ pub mod lengths;
 /// What a run found.
 #[derive(Clone, Copy, Debug, PartialEq, Eq)]
 pub struct Found {
+    /// The marked rings.
+    pub marks: usize,
+    /// Those of them whose classes are numbered.
+    pub short: usize,
     /// The kept families.
     pub families: usize,
     /// Their classes.
@@ -50,5 +54,5 @@ pub fn report(
         result out.new table.new sizes.new }
 {
     let full = cyclomatic(net.n, bonds);
-    lengths::run(net, full, from, out, table, sizes)
+    lengths::run(net.view(), full, from, out, table, sizes)
 }

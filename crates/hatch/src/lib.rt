@@ -62,14 +62,14 @@ impl Reply {
             ..Reply::default()
         }
     }
-}
 
-impl From<Answer> for Reply {
-    ghost from_gives = { λ answer reply. reply ≡ reply_of (told answer 0) };
-
-    fn from(answer: Answer) -> Reply {
+    /// An answer, and the size asked for.
+    #[tactic(auto, unfolding(rings::specs::Calls::told))]
+    fn told(answer: Answer, size: u64) -> Reply
+        ensures { result ≡ reply_of (told answer size) }
+    {
         match answer {
-            Ok(full) => Reply::full(full, 0),
+            Ok(full) => Reply::full(full, size),
             Err(refusal) => Reply::refused(refusal),
         }
     }
@@ -99,7 +99,7 @@ pub extern "C" fn rings_families(
         family_rows.new class_rows.new }
     ensures plain { result ≡ reply_of (with_size (told_by result) 0) }
 {
-    rings::families(n, bonds, family_rows, class_rows).into()
+    Reply::told(rings::families(n, bonds, family_rows, class_rows), 0)
 }
 
 /// The same, and the size of the family of a row.
@@ -130,7 +130,8 @@ pub extern "C" fn rings_families_of(
         family_rows.new class_rows.new }
     ensures plain { result ≡ reply_of (with_size (told_by result) 0) }
 {
-    records::families_of(n, bonds, family_rows, class_rows).into()
+    let found = records::families_of(n, bonds, family_rows, class_rows);
+    Reply::told(found, 0)
 }
 
 /// The same, and the size of the family of a row.

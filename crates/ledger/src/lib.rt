@@ -43,7 +43,7 @@ pub struct Tally {
 }
 
 /// The classes of the marked rings, as far as they are joined.
-#[derive(Drop)]
+#[derive(Clone, Copy)]
 pub struct Classes {
     /// For each marked ring of the length in hand the first marked ring of its class, for a shorter one its class.
     pub labels: [u8; 82],
@@ -117,7 +117,7 @@ impl Classes {
 }
 
 /// The marked rings: their rows and their classes.
-#[derive(Drop)]
+#[derive(Clone, Copy)]
 pub struct Ledger {
     /// The rows of the marked rings, whose tags name the marked rings of which each row is the sum.
     pub basis: Rows<82>,
@@ -125,7 +125,7 @@ pub struct Ledger {
     pub classes: Classes,
     // Each marked ring has its row, and the rows are found by their index.
     pub ghost counted: { basis.count ≡ classes.tally.marks },
-    pub ghost indexed: { Indexed (flat basis.rows) basis.pivots basis.index.place
+    pub ghost indexed: { Indexed (flat basis.rows) basis.pivots basis.place
         (value basis.index.fresh) (value basis.index.late) (value basis.index.all) basis.count } by { Indexed-prop _ _ _ _ _ _ _ },
 }
 

@@ -23,6 +23,7 @@ fn prism_bond(k: u8) -> [u8; 2] {
 }
 
 // The prism's bonds.
+#[inline(never)]
 fn prism() -> [[u8; 2]; 97] {
     let mut bonds = [[0u8; 2]; 97];
     for (k, bond) in (0u8..).zip(&mut bonds) {
@@ -49,7 +50,8 @@ pub fn path_of(rt: &impl Print, name: &str, n: usize, bytes: usize) -> io::Resul
     )
 }
 
-/// Runs a case of 64 atoms on so many bytes of the prism's bonds.
+/// Runs a case of 64 atoms on so many bytes of the prism's bonds. Its bonds are on the stack in this case alone.
+#[inline(never)]
 pub fn prism_of(
     rt: &impl Print,
     name: &str,

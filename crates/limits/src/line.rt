@@ -1,6 +1,6 @@
 //! One case and its line: its name, the five numbers or the refusal, and how far the family rows and the class rows were written.
 
-use rings::{Answer, Full};
+use rings::Answer;
 use std::io;
 
 /// All the bytes that can be lent for a kind of row.
@@ -25,31 +25,36 @@ pub struct Call<'a> {
 // What was answered.
 fn say_answer(rt: &impl Print, answer: Answer) -> io::Result<()> {
     match answer {
-        Ok(
-            Full {
-                cyclomatic,
-                families,
-                classes,
-                total,
-                rings,
-            },
-        ) => {
-            print!(rt;
-                ": cyclomatic={cyclomatic} families={families} classes={classes} total={total} rings={rings}"
-            )
+        Ok(full) => {
+            cases::say(rt, b": cyclomatic=", full.cyclomatic)?;
+            cases::say(rt, b" families=", full.families)?;
+            cases::say(rt, b" classes=", full.classes)?;
+            cases::say(rt, b" total=", full.total)?;
+            cases::say(rt, b" rings=", full.rings)
         }
-        Err(refusal) => print!(rt; ": refused={} at={}", refusal.number(), refusal.at()),
+        Err(refusal) => {
+            cases::say(rt, b": refused=", refusal.number())?;
+            cases::say(rt, b" at=", refusal.at())
+        }
     }
 }
 
 // How far a buffer was written: the place after its last byte that is not as lent.
-fn written(buffer: &[u8; ROOM]) -> usize {
+fn written(buffer: &[u8; ROOM]) -> u64 {
     let last = buffer.iter().rposition(|byte| *byte != LENT);
-    last.map_or(0, |place| place + 1)
+    last.map_or(0, |place| place as u64 + 1)
 }
 
-/// Runs a case and prints its line.
-pub fn run(rt: &impl Print, name: &str, call: Call) -> io::Result<()> {
+// What a call answered, and how far it wrote.
+#[derive(Clone, Copy)]
+struct Outcome {
+    answer: Answer,
+    rows: u64,
+    class_rows: u64,
+}
+
+// The call. Its buffers are gone from the stack when its line is printed.
+fn ask(call: Call) -> Outcome {
     let mut rows = [LENT; ROOM];
     let mut class_rows = [LENT; ROOM];
     let answer = rings::families(
@@ -58,7 +63,19 @@ pub fn run(rt: &impl Print, name: &str, call: Call) -> io::Result<()> {
         &mut rows[..call.row_bytes.min(ROOM)],
         &mut class_rows[..call.class_bytes.min(ROOM)],
     );
-    print!(rt; "{name}")?;
-    say_answer(rt, answer)?;
-    println!(rt; " written={},{}", written(&rows), written(&class_rows))
+    Outcome {
+        answer,
+        rows: written(&rows),
+        class_rows: written(&class_rows),
+    }
+}
+
+/// Runs a case and prints its line.
+pub fn run(rt: &impl Print, name: &str, call: Call) -> io::Result<()> {
+    let outcome = ask(call);
+    rt.write_all(name.as_bytes())?;
+    say_answer(rt, outcome.answer)?;
+    cases::say(rt, b" written=", outcome.rows)?;
+    cases::say(rt, b",", outcome.class_rows)?;
+    rt.write_all(b"\n")
 }

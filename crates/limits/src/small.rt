@@ -1,13 +1,17 @@
 //! Small compounds in tables: the number of atoms, the bytes lent for family rows and those lent for class rows, and then two digits for each
 //! bond, as in `3 008 005 01 12 02`.
 
+ghost use Rattle.std.specs.Prelude.{◌≤◌, length};
+
 use crate::line::Call;
 use cases::{Case, Cases};
 use std::io;
 use std::str::Split;
 
 // The digits of words as bond bytes, as many as there is room for.
-fn digits<'a>(words: Split<'_, char>, room: &'a mut [u8; 32]) -> &'a [u8] {
+fn digits<'a>(words: Split<'_, char>, room: &'a mut [u8; 32]) -> &'a [u8]
+    ensures { length result.now ≤ 32 }
+{
     let mut count = 0;
     let bytes = words.flat_map(|word| word.bytes());
     for (value, digit) in room.iter_mut().zip(bytes) {
@@ -22,7 +26,8 @@ fn number(words: &mut Split<'_, char>) -> Option<usize> {
     words.next()?.parse().ok()
 }
 
-// The call that a case describes.
+// The call that a case describes. What it takes of the stack is free again when the call is made.
+#[inline(never)]
 fn call_of<'a>(body: &str, room: &'a mut [u8; 32]) -> Option<Call<'a>> {
     let mut words = body.split(' ');
     let n = number(&mut words)?;

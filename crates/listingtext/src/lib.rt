@@ -54,13 +54,28 @@ impl Page<'_> {
         self.at = end;
     }
 
+    // A byte.
+    fn byte(&mut self, byte: u8)
+        requires { self.old.at < length self.old.out.now }
+        ensures adds { Adds self.old (byte ∷ []) self.new }
+        ensures value { self.new.at ≡ self.old.at + 1 }
+    {
+        self.out[self.at] = byte;
+        self.at += 1;
+    }
+
     // A number in decimal.
     fn number(&mut self, x: u64)
         requires { self.old.at + length (decimal x) ≤ length self.old.out.now }
         ensures adds { Adds self.old (decimal x) self.new }
         ensures value { self.new.at ≡ self.old.at + length (decimal x) }
     {
-        self.word(Buffer::new().format(x).as_bytes());
+        // Of a number of one digit the buffer and its copy would take most of the time.
+        if x < 10 {
+            self.byte(x as u8 + b'0');
+        } else {
+            self.word(Buffer::new().format(x).as_bytes());
+        }
     }
 
     // A number in decimal and the byte that ends it.
@@ -70,7 +85,7 @@ impl Page<'_> {
         ensures value { self.new.at ≡ self.old.at + length (decimal x) + 1 }
     {
         self.number(x);
-        self.word(&[end]);
+        self.byte(end);
     }
 
     // Bytes in decimal, each with a comma after it.

@@ -23,7 +23,7 @@ pub struct Bond {
 }
 
 /// How many bytes the byte form is lent for so many records: two for each, and 1, which it refuses, for more than 96.
-fn lent(count: usize) -> usize
+pub fn lent(count: usize) -> usize
     ensures counted { result ≡ lent_bytes count }
     ensures few { result ≤ 192 }
 {
@@ -31,7 +31,7 @@ fn lent(count: usize) -> usize
 }
 
 /// The bytes of the records, and zeros after them; zeros alone where there are more than 96 records.
-fn copied(bonds: &[Bond]) -> [u8; 192]
+pub fn copied(bonds: &[Bond]) -> [u8; 192]
     ensures { result ≡ laid bonds.now (lent_bytes (length bonds.now) / 2) }
 {
     let mut all = [0u8; 192];

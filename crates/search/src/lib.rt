@@ -43,14 +43,14 @@ pub fn in_one_piece(n: usize, adj: &[u64]) -> bool
 }
 
 /// A search under way, at some distance from its start.
-#[derive(Drop)]
-struct Search {
+#[derive(Clone, Copy)]
+pub struct Search {
     /// All atoms up to that distance.
-    seen: u64,
+    pub seen: u64,
     /// The atoms one step further that are under the start.
-    under: u64,
+    pub under: u64,
     /// The atoms seen, those at that distance last.
-    queue: Queue,
+    pub queue: Queue,
 }
 
 impl Search {

@@ -4,7 +4,7 @@ ghost use Rattle.bondset.specs.Sets.{length_to};
 ghost use Rattle.atoms.specs.Nets.{neighbours};
 
 /// The atoms that a search has found, in the order in which it found them.
-#[derive(Drop)]
+#[derive(Clone, Copy)]
 pub struct Queue {
     /// The atoms, and room for all others.
     atoms: [u8; 64],

@@ -1,4 +1,4 @@
-use Rattle.std.proofs.Common.{rules}
+use Rattle.std.proofs.Common.{◌≡◌, arith, rules}
 use Rattle.counting.proofs.Tables.{down_start, down_next, down_end}
 use Rattle.counting.proofs.lone.Goals as goal
 
@@ -11,7 +11,8 @@ loop-layer-init c =
 pub loop-layer-preserved : goal.loop-layer-preserved
 loop-layer-preserved c =
     let way = c.in-Some-default-eq0 in
-    (search rules, search rules, down_next c.loop-layer.invariant.2 _ _ c.in-Some.ensures.steps (rw way.field-0-1-test at way.ensures))
+    let alone : way.field-0-1 ≡ 0 = omega (arith, way.field-0-1-test) in
+    (search rules, search rules, down_next c.loop-layer.invariant.2 _ _ c.in-Some.ensures.steps (rw alone at way.ensures))
 
 pub returns : goal.returns
 returns c e = down_end c.loop-layer.invariant.2 c.in-None.ensures.steps.0

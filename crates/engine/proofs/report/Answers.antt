@@ -7,4 +7,6 @@ pub cyclomatic-full-requires : goal.cyclomatic-full-requires
 cyclomatic-full-requires c = accepted_bonds _ c.requires.accepted
 
 pub returns : goal.returns
-returns c = run_reports c.requires c.cyclomatic-full.ensures c.run.ensures
+returns c =
+    let lent = c.view.ensures in
+    run_reports c.view.result c.requires lent.n_kept lent.neighbours_kept lent.bonds_kept c.cyclomatic-full.ensures c.run.ensures

@@ -4,5 +4,5 @@ use Rattle.hatch.proofs.rings_families.Goals as goal
 
 pub returns : goal.returns
 returns c =
-    let told = families_told c.families.result c.into.ensures c.families.ensures in
+    let told = families_told c.families.result c.told.ensures c.families.ensures in
     record { answered = told.0; plain = told.1 }

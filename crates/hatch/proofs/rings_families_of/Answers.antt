@@ -4,5 +4,5 @@ use Rattle.hatch.proofs.rings_families_of.Goals as goal
 
 pub returns : goal.returns
 returns c =
-    let told = families_told c.families_of.result c.into.ensures c.families_of.ensures in
+    let told = families_told c.families_of-found.result c.told.ensures c.families_of-found.ensures in
     record { answered = told.0; plain = told.1 }

@@ -6,7 +6,7 @@ use Rattle.candidates.proofs.Going.seek.Goals as goal
 pub loop-p-init : goal.loop-p-init
 loop-p-init c =
     let starts = c.first-p-items.ensures in
-    (tt, tt, trying_start c.into_iter-p-iterator.ensures.into_iter_gives starts.within (starts.all c.args.net.now.n c.args.net.now.touch c.args.r))
+    (tt, tt, trying_start c.into_iter-p-iterator.ensures.into_iter_gives starts.within (starts.all c.args.net.n c.args.net.touch.now c.args.r))
 
 pub invariant_of-f : goal.invariant_of-f
 invariant_of-f c =

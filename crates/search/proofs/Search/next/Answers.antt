@@ -23,12 +23,6 @@ found c =
     let seen = c.args.self.now.seen in
     and_not c.beside.result seen c.beside.type_inv (omega arith) ∙ ap (λ (x : ℕ). x - bit_and x seen) c.beside.ensures
 
-pub append-requires : goal.append-requires
-append-requires c =
-    let a = c.args in
-    let pos = pos_of_ne a.self.now.under c.if-self-eq0.false in
-    found_room (neighbours a.adj.now) a.pre a.self.now pos (c.requires.ready pos) _ (found (goal.at.append-requires c).After-beside)
-
 pub returns : goal.returns
 returns c =
     let a = c.args in
@@ -41,3 +35,10 @@ returns c =
     let under = and_not below seen' (omega (arith, and_le_l c.near.result a.pre, c.near.type_inv)) small in
     goes_further (neighbours a.adj.now) a.pre s pos (c.requires.ready pos) _ (found (goal.at.returns c).After-beside) _ refl c.append.ensures
     (under ∙ ap (λ (x : ℕ). bit_and x a.pre - bit_and (bit_and x a.pre) seen') c.near.ensures)
+
+-- Last: what a wrong set breaks is to be refused first, and not the room, which it may have.
+pub append-requires : goal.append-requires
+append-requires c =
+    let a = c.args in
+    let pos = pos_of_ne a.self.now.under c.if-self-eq0.false in
+    found_room (neighbours a.adj.now) a.pre a.self.now pos (c.requires.ready pos) _ (found (goal.at.append-requires c).After-beside)

@@ -3,6 +3,7 @@ use mathlib.Core.Path.{sym, ap, ◌∙◌}
 use native.Mathlib.Omega.{arith}
 use lib.Bits.{bit_xor, xor_comm, xor_zero_l}
 use lib.Count.{trailing_le}
+use lib.ListN.{length}
 use borrow.Author.Tests.{eqb-true, eqb-false}
 use Rattle.bondset.specs.Sets.{value}
 use Rattle.bondset.proofs.Laws.{words_lt}
@@ -19,7 +20,7 @@ returns-then-is_empty c =
     let a = c.args in
     let x = a.self.now in
     let none = sym c.is_empty.ensures.empty ∙ c.if-is_empty.true in
-    enters_late a.pivots.now x.place (value x.fresh) (value x.late) (value x.all) a.count (value a.rest)
+    enters_late a.pivots.now a.place.now (value x.fresh) (value x.late) (value x.all) a.count (value a.rest)
     (new_of_lem (value x.all) (value a.rest) (value c.intersection.result) (value c.sum-new.result) c.intersection.ensures c.sum-new.ensures)
     (sym (ap (bit_xor (value x.all)) (eqb-true (value c.sum-new.result) 0 none) ∙ xor_comm (value x.all) 0 ∙ xor_zero_l (value x.all))) none
     c.lowest.ensures (c.sum-self.ensures ∙ ap (bit_xor (value x.late)) c.single.ensures)
@@ -27,21 +28,21 @@ returns-then-is_empty c =
 pub overflow_cast-pivots-2 : goal.overflow_cast-pivots-2
 overflow_cast-pivots-2 c = omega (arith, c.lowest-b.ensures, trailing_le 128 (value c.sum-new.result))
 
-pub overflow_cast-self : goal.overflow_cast-self
-overflow_cast-self c = omega (arith, c.lowest-b.ensures, trailing_le 128 (value c.sum-new.result))
+pub overflow_cast-place : goal.overflow_cast-place
+overflow_cast-place c = omega (arith, c.lowest-b.ensures, trailing_le 128 (value c.sum-new.result))
 
-pub bounds-self-b : goal.bounds-self-b
-bounds-self-b c =
+pub bounds-place-b : goal.bounds-place-b
+bounds-place-b c =
     let new = c.sum-new in
-    place_lt (value new.result) c.lowest-b.result 128
+    place_lt (value new.result) c.lowest-b.result (length c.args.place.now)
     (eqb-false (value new.result) 0 (sym c.is_empty.ensures.empty ∙ c.if-is_empty.false))
-    (words_lt 64 new.result.hi new.result.lo (omega arith) (omega arith)) c.lowest-b.ensures (omega arith)
+    (words_lt 64 new.result.hi new.result.lo (omega arith) (omega arith)) c.lowest-b.ensures c.requires.in_bounds
 
 pub returns : goal.returns
 returns c =
     let a = c.args in
     let x = a.self.now in
-    enters_fresh a.pivots.now x.place (value x.fresh) (value x.late) (value x.all) a.count (value a.rest)
+    enters_fresh a.pivots.now a.place.now (value x.fresh) (value x.late) (value x.all) a.count (value a.rest)
     (new_of_lem (value x.all) (value a.rest) (value c.intersection.result) (value c.sum-new.result) c.intersection.ensures c.sum-new.ensures)
     c.sum-self-3.ensures (sym c.is_empty.ensures.empty ∙ c.if-is_empty.false)
     c.lowest-b.ensures (c.sum-self-2.ensures ∙ ap (bit_xor (value x.fresh)) c.single-2.ensures)

@@ -10,7 +10,7 @@ use Rattle.engine.proofs.lengths.Running.round.Given as goal
 
 abbrev pub invariant-loop-r : goal.invariant-loop-r
 invariant-loop-r l =
-    let net = graph l.fn.task.net.now in
+    let net = graph l.fn.task.net in
     let attempt = attempted net l.fn.task.from in
     (goal.iterator-loop-r).can_next l.r-iterator × (goal.iterator-loop-r).is_finite l.r-iterator
     × Left (top_loop net attempt preceding l.k) (members 64 l.r-iterator.rest) (running_of l.self l.out l.table l.sizes)

@@ -1,7 +1,7 @@
 use native.Mathlib.Omega.{arith}
 use Rattle.model.specs.Loops.{top_step, tops}
 use Rattle.atoms.proofs.Loops.{upto_start, upto_next, upto_end}
-use Rattle.atoms.proofs.nets.Net.tops.Goals as goal
+use Rattle.atoms.proofs.nets.View.tops.Goals as goal
 
 pub loop-r-init : goal.loop-r-init
 loop-r-init c = (omega arith, upto_start _ 0 0)

@@ -10,24 +10,23 @@ use Rattle.bondset.specs.Rows.{flat}
 use Rattle.bondset.specs.Index.{add_within}
 use Rattle.bondset.proofs.Rows.{row_flat}
 use Rattle.bondset.proofs.IndexReduce.{within_in, within_below, within_beyond}
-use Rattle.bondset.proofs.indexed.Rows.add_within.Goals as goal
+use Rattle.bondset.proofs.indexed.add_within.Goals as goal
 
 pub returns-then-i-from : goal.returns-then-i-from
-returns-then-i-from g c =
+returns-then-i-from c =
     let a = c.args in
     let same : (arr : List ℕ) (s : ℕ) → add_within arr a.from a.to a.i s ≡ s =
     elim c.then-i-from.either [
       | inl h ↦ within_below a.from a.to a.i h
       | inr h ↦ within_beyond a.from a.to a.i h.1
     ] in
-    record { rest = sym (same (flat a.self.now.rows) (value a.v.rest)); used = sym (same (flat a.self.now.tags) (value a.v.used)) }
+    record { rest = sym (same (flat a.rows.now) (value a.v.rest)); used = sym (same (flat a.tags.now) (value a.v.used)) }
 
 pub returns : goal.returns
-returns g c =
+returns c =
     let a = c.args in
-    let L = a.self.now in
     let more = within_in a.from a.to a.i (omega arith) (omega arith) in
     record {
-      rest = c.sum.ensures ∙ ap (bit_xor (value a.v.rest)) (sym (row_flat L.rows a.i)) ∙ sym (more (flat L.rows) (value a.v.rest));
-      used = c.sum-2.ensures ∙ ap (bit_xor (value a.v.used)) (sym (row_flat L.tags a.i)) ∙ sym (more (flat L.tags) (value a.v.used));
+      rest = c.sum.ensures ∙ ap (bit_xor (value a.v.rest)) (sym (row_flat a.rows.now a.i)) ∙ sym (more (flat a.rows.now) (value a.v.rest));
+      used = c.sum-2.ensures ∙ ap (bit_xor (value a.v.used)) (sym (row_flat a.tags.now a.i)) ∙ sym (more (flat a.tags.now) (value a.v.used));
     }

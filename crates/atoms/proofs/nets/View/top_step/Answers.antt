@@ -8,13 +8,13 @@ use lib.ListN.{get_or}
 use Rattle.model.specs.Net.{preceding}
 use Rattle.model.specs.Loops.{two, top_step}
 use Rattle.atoms.proofs.Words.{one_shl}
-use Rattle.atoms.proofs.nets.Net.top_step.Goals as goal
+use Rattle.atoms.proofs.nets.View.top_step.Goals as goal
 
 pub returns-then-two : goal.returns-then-two
 unfolding top_step
 returns-then-two c =
     let r = c.args.r in
-    let w = get_or c.args.self.now.adj r 0 in
+    let w = get_or c.args.self.now.adj.now r 0 in
     let yes' : two (bit_and w (preceding r)) ≡ true =
     ap (λ (x : ℕ). two (bit_and w x)) (sym c.preceding.ensures) ∙ sym c.two.ensures ∙ c.if-two.true in
     rw yes' (ap (bit_or c.args.acc) (one_shl r (omega arith)))
@@ -23,7 +23,7 @@ pub returns : goal.returns
 unfolding top_step
 returns c =
     let r = c.args.r in
-    let w = get_or c.args.self.now.adj r 0 in
+    let w = get_or c.args.self.now.adj.now r 0 in
     let not' : two (bit_and w (preceding r)) ≡ false =
     ap (λ (x : ℕ). two (bit_and w x)) (sym c.preceding.ensures) ∙ sym c.two.ensures ∙ c.if-two.false in
     rw not'
