@@ -22,7 +22,7 @@ fn prism_bond(k: u8) -> [u8; 2] {
     }
 }
 
-// The prism's bonds.
+// The prism's bonds. What making them takes of the stack is free again when the case runs.
 #[inline(never)]
 fn prism() -> [[u8; 2]; 97] {
     let mut bonds = [[0u8; 2]; 97];
