@@ -90,6 +90,16 @@ not_cons : {x y : ℕ} {xs : List ℕ} → (x ≡ y → ⊥) → (x ∈ xs → �
 not_cons ne out first = ne refl
 not_cons ne out (later m) = out m
 
+-- ---- the hits and then the late rows
+
+-- They leave of the set s and the tags u what the rows from, .., to - 1 in order leave.
+abbrev pub HitsThenLate : List ℕ → List ℕ → List ℕ → List ℕ → ℕ → ℕ → ℕ → ℕ → ℕ → ℕ → Type 0
+HitsThenLate rows tags pivots place fresh late from to s u =
+    Reduces rows tags pivots from to s u
+    (late_rest rows pivots from to (members 128 late) (add_placed rows place from to (members 128 (bit_and s fresh)) s))
+    (late_used rows tags pivots from to (members 128 late) (add_placed rows place from to (members 128 (bit_and s fresh)) s)
+    (add_placed tags place from to (members 128 (bit_and s fresh)) u))
+
 -- ---- the hits
 
 module _ {rows pivots place : List ℕ} {fresh late all n : ℕ} (ix : Indexed rows pivots place fresh late all n) (from to : ℕ) (enough : to ≤ n) where
@@ -130,12 +140,12 @@ module _ {rows pivots place : List ℕ} {fresh late all n : ℕ} (ix : Indexed r
       placed_pending bs (add_within rows from to (get_or place b 0) s) c (λ b m. e b (later m)) (pending_step b bs s (e b first) above p)
 
   -- the hits of a set are its fresh bonds
-  hits_pending : (s : ℕ) → fresh < 2 ^ 128 → Pending (members 128 (bit_and s fresh)) s
-  hits_pending s small =
+  hits_pending : (s : ℕ) → ((b : ℕ) → bit s b ≡ 1 → bit fresh b ≡ 1 → b < 128) → Pending (members 128 (bit_and s fresh)) s
+  hits_pending s below =
       record {
         held = λ j l h f m. low s (get_or pivots j 0) f.among (bit_of_mem 128 (bit_and s fresh) (get_or pivots j 0) m);
         gone = λ j l h f out. not_one s (get_or pivots j 0) (λ e.
-            out (mem_of_bit 128 (bit_and s fresh) (get_or pivots j 0) (bond_lt 128 fresh (get_or pivots j 0) small f.among)
+            out (mem_of_bit 128 (bit_and s fresh) (get_or pivots j 0) (below (get_or pivots j 0) e f.among)
             (bit_and_lem s fresh (get_or pivots j 0) ∙ ap₂ min e f.among)));
       }
     where
@@ -244,15 +254,12 @@ module _ {rows pivots place : List ℕ} {fresh late all n : ℕ} (ix : Indexed r
     same_late (i ∷ is) s u =
         same_trans (same_held i s u) (same_late is (add_held rows pivots from to s i s) (add_held tags pivots from to s i u))
 
-    -- The hits, and then the late rows: the same rest and the same tags as the rows in order.
-    pub reduces_indexed : fresh < 2 ^ 128 → late < 2 ^ 128 → (s u : ℕ)
-        → Reduces rows tags pivots from to s u
-        (late_rest rows pivots from to (members 128 late) (add_placed rows place from to (members 128 (bit_and s fresh)) s))
-        (late_used rows tags pivots from to (members 128 late) (add_placed rows place from to (members 128 (bit_and s fresh)) s)
-        (add_placed tags place from to (members 128 (bit_and s fresh)) u))
-    reduces_indexed fits fits' s u =
+    -- The hits, and then the late rows: the same rest and the same tags as the rows in order, where the hits and the late rows are below 128;
+    hits_then_late : (s u : ℕ) → ((b : ℕ) → bit s b ≡ 1 → bit fresh b ≡ 1 → b < 128) → ((i : ℕ) → bit late i ≡ 1 → i < 128)
+        → HitsThenLate rows tags pivots place fresh late from to s u
+    hits_then_late s u below below' =
         same_done (same_trans (same_placed hits s u) (same_late lates t (add_placed tags place from to hits u)))
-        (λ j l h. late_lacking lates t (members_climb 128 late) (λ i m. ix.within i (bit_of_mem 128 late i m)) (λ j e. inl (mem_of_bit 128 late j (bond_lt 128 late j fits' e) e))
+        (λ j l h. late_lacking lates t (members_climb 128 late) (λ i m. ix.within i (bit_of_mem 128 late i m)) (λ j e. inl (mem_of_bit 128 late j (below' j e) e))
         (λ j l h out. at_first j l h out (ix.split j (lt_of_lt_of_le h enough))) j l h (λ m. elim m [ ]))
       where
         hits : List ℕ
@@ -265,24 +272,45 @@ module _ {rows pivots place : List ℕ} {fresh late all n : ℕ} (ix : Indexed r
         t = add_placed rows place from to hits s
 
         settled : Pending [] t
-        settled = placed_pending hits s (members_climb 128 (bit_and s fresh)) (λ b m. right b (bit_of_mem 128 (bit_and s fresh) b m)) (hits_pending s fits)
+        settled = placed_pending hits s (members_climb 128 (bit_and s fresh)) (λ b m. right b (bit_of_mem 128 (bit_and s fresh) b m)) (hits_pending s below)
           where
             right : (b : ℕ) → bit (bit_and s fresh) b ≡ 1 → bit fresh b ≡ 1
             right b m = omega (arith, bit_lt fresh b, sym m ∙ bit_and_lem s fresh b)
 
         at_first : (j : ℕ) → from ≤ j → j < to → (j ∈ lates → ⊥) → (bit late j ≡ 1) ⊎ Fresh rows pivots place fresh n j → bit t (get_or pivots j 0) ≡ 0
-        at_first j l h out (inl e) = absurd (out (mem_of_bit 128 late j (bond_lt 128 late j fits' e) e))
+        at_first j l h out (inl e) = absurd (out (mem_of_bit 128 late j (below' j e) e))
         at_first j l h out (inr f) = settled.gone j l h f (λ m. elim m [ ])
 
--- the same of what the two loops leave
-pub reduces_by : {rows tags pivots place : List ℕ} {fresh late all from to : ℕ} → Reaches rows pivots place fresh late all to → fresh < 2 ^ 128 → late < 2 ^ 128
-    → {hits s u t w x y : ℕ} → hits ≡ bit_and s fresh → AddsPlaced rows tags place from to (members 128 hits) s u t w
+    -- so of a set of bonds below 128, by at most 128 rows,
+    pub reduces_indexed : n ≤ 128 → (s u : ℕ) → s < 2 ^ 128 → HitsThenLate rows tags pivots place fresh late from to s u
+    reduces_indexed few s u fits = hits_then_late s u (λ b e f. bond_lt 128 s b fits e) (λ i e. lt_of_lt_of_le (ix.within i e) few)
+
+    -- and of any set, by an index whose fresh pivots and late rows are below 128.
+    pub reduces_indexed_words : fresh < 2 ^ 128 → late < 2 ^ 128 → (s u : ℕ) → HitsThenLate rows tags pivots place fresh late from to s u
+    reduces_indexed_words fits fits' s u = hits_then_late s u (λ b e f. bond_lt 128 fresh b fits f) (λ i e. bond_lt 128 late i fits' e)
+
+-- The loop over the hits and the one over the late rows leave what these leave.
+loops_reduce : {rows tags pivots place : List ℕ} (fresh late : ℕ) {from to hits s u t w x y : ℕ} → HitsThenLate rows tags pivots place fresh late from to s u
+    → hits ≡ bit_and s fresh → AddsPlaced rows tags place from to (members 128 hits) s u t w
     → AddsLate rows tags pivots from to (members 128 late) t w x y → Reduces rows tags pivots from to s u x y
-reduces_by {rows} {tags} {pivots} {place} {fresh} {late} {all} {from} {to} r fits fits' {hits} {s} {u} {t} {w} {x} {y} e p q =
-    let so = reduces_indexed r.indexed from to r.enough tags fits fits' s u in
+loops_reduce {rows} {tags} {pivots} {place} fresh late {from} {to} {hits} {s} {u} {t} {w} {x} {y} so e p q =
     let a : t ≡ add_placed rows place from to (members 128 (bit_and s fresh)) s = p.rest ∙ ap (λ (h : ℕ). add_placed rows place from to (members 128 h) s) e in
     let b : w ≡ add_placed tags place from to (members 128 (bit_and s fresh)) u = p.used ∙ ap (λ (h : ℕ). add_placed tags place from to (members 128 h) u) e in
     record {
       rest = q.rest ∙ ap (late_rest rows pivots from to (members 128 late)) a ∙ so.rest;
       used = q.used ∙ ap₂ (late_used rows tags pivots from to (members 128 late)) a b ∙ so.used;
     }
+
+-- So they reduce a set of bonds below 128 by at most 128 rows,
+pub reduces_by : {rows tags pivots place : List ℕ} {fresh late all from to n : ℕ} → Indexed rows pivots place fresh late all n → to ≤ n → n ≤ 128
+    → {hits s u t w x y : ℕ} → s < 2 ^ 128 → hits ≡ bit_and s fresh → AddsPlaced rows tags place from to (members 128 hits) s u t w
+    → AddsLate rows tags pivots from to (members 128 late) t w x y → Reduces rows tags pivots from to s u x y
+reduces_by {tags = tags} {fresh = fresh} {late = late} {from = from} {to = to} ix enough few {s = s} {u = u} fits =
+    loops_reduce fresh late (reduces_indexed ix from to enough tags few s u fits)
+
+-- and any set by an index that reaches the rows and whose fresh pivots and late rows are below 128.
+pub reduces_reaching : {rows tags pivots place : List ℕ} {fresh late all from to : ℕ} → Reaches rows pivots place fresh late all to → fresh < 2 ^ 128 → late < 2 ^ 128
+    → {hits s u t w x y : ℕ} → hits ≡ bit_and s fresh → AddsPlaced rows tags place from to (members 128 hits) s u t w
+    → AddsLate rows tags pivots from to (members 128 late) t w x y → Reduces rows tags pivots from to s u x y
+reduces_reaching {tags = tags} {fresh = fresh} {late = late} {from = from} {to = to} r fits fits' {s = s} {u = u} =
+    loops_reduce fresh late (reduces_indexed_words r.indexed from to r.enough tags fits fits' s u)

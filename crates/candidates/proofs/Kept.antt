@@ -12,17 +12,16 @@ use Rattle.std.proofs.Common.{Option, Some, None}
 use Rattle.bondset.proofs.Laws.{lt_or_ge}
 use Rattle.cycles.specs.Family.{Family}
 use Rattle.cycles.specs.Rows.{most}
+use Rattle.model.specs.Net.{Net}
 use Rattle.model.specs.Layer.{walk, ways}
 use Rattle.model.specs.State.{link}
 use Rattle.paths.specs.Nets.{net as net_of}
 use Rattle.paths.proofs.Steps.{link_net, walk_net}
 use Rattle.counting.specs.Counts.{added}
 use Rattle.counting.proofs.WaysNet.{ways_net}
-use Rattle.atoms.specs.declared.nets.View as atoms
 use Rattle.ledger.specs.Ledger.{entered}
 use Rattle.ledger.specs.Held.{ledger_of, Leaves}
 use Rattle.candidates.specs.declared.Going as code
-use Rattle.candidates.specs.Nets.{graph}
 use Rattle.candidates.specs.Engine.{put_size, size_in, kept_by, attempted}
 use Rattle.candidates.specs.Going.{Tries}
 
@@ -58,25 +57,25 @@ added_few max (Some n) size rings e = elim (lt_or_ge max (n + size)) [
 
 -- ---- a candidate
 
-module _ (net : atoms.View) (from : ℕ) (us : List ℕ) (d : ℕ) (f : Family) (before : code.Going) (out sizes : List ℕ) (closing ring rest names : ℕ)
-    (closed : closing ≡ link (net_of [] net.touch.now) f) (walked : ring ≡ walk (net_of net.adj.now net.touch.now) us d f.p f.q closing)
+module _ (G : Net) (from : ℕ) (us : List ℕ) (d : ℕ) (f : Family) (before : code.Going) (out sizes : List ℕ) (closing ring rest names : ℕ)
+    (closed : closing ≡ link (net_of [] G.touch) f) (walked : ring ≡ walk (net_of G.adj G.touch) us d f.p f.q closing)
     (leaves : Leaves before.ledger ring rest names) where
-  ring_is : walk (graph net) us d f.p f.q (link (graph net) f) ≡ ring
+  ring_is : walk G us d f.p f.q (link G f) ≡ ring
   ring_is = sym (
-      walked ∙ ap (walk (net_of net.adj.now net.touch.now) us d f.p f.q) (closed ∙ link_net (graph net) f)
-      ∙ walk_net (graph net) us d f.p f.q (link (graph net) f))
+      walked ∙ ap (walk (net_of G.adj G.touch) us d f.p f.q) (closed ∙ link_net G f)
+      ∙ walk_net G us d f.p f.q (link G f))
 
   -- Nothing is left of it: it is a sum of shorter rings, or was dropped.
-  pub attempt_none : eqb rest 0 ≡ true → Tries (attempted (graph net) from us d f) before out sizes before out sizes
+  pub attempt_none : eqb rest 0 ≡ true → Tries (attempted G from us d f) before out sizes before out sizes
   unfolding attempted
   attempt_none z = record { is = λ table. rw (ring_is, ← leaves.rest_is, z) }
 
   -- It is kept: a times b rings.
   pub attempt_kept : eqb rest 0 ≡ false → (a b : ℕ) (after : code.Going) (out' sizes' : List ℕ)
-      → a ≡ ways (net_of net.adj.now []) us d f.p → b ≡ ways (net_of net.adj.now []) us d f.q → after.rings ≡ added most before.rings (a * b)
+      → a ≡ ways (net_of G.adj []) us d f.p → b ≡ ways (net_of G.adj []) us d f.q → after.rings ≡ added most before.rings (a * b)
       → sizes' ≡ put_size from before.ledger.classes.tally.families (size_in after.rings (a * b)) sizes
       → ((table : List ℕ) → ledger_of after.ledger out' table ≡ entered f rest names (ledger_of before.ledger out table))
-      → Tries (attempted (graph net) from us d f) before out sizes after out' sizes'
+      → Tries (attempted G from us d f) before out sizes after out' sizes'
   unfolding attempted kept_by
   attempt_kept z a b after out' sizes' p q added put ledgers = record {
     is =
@@ -85,8 +84,8 @@ module _ (net : atoms.View) (from : ℕ) (us : List ℕ) (d : ℕ) (f : Family) 
           ← leaves.rest_is,
           z,
           ← leaves.names_are,
-          ← ways_net (graph net) us d f.p,
-          ← ways_net (graph net) us d f.q,
+          ← ways_net G us d f.p,
+          ← ways_net G us d f.q,
           ← p,
           ← q,
           put,

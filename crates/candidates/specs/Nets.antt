@@ -1,7 +1,12 @@
--- The code's net, as it is lent, as that of the model.
+-- The code's nets as those of the model: the same atoms, neighbours and bonds.
 use Rattle.model.specs.Net.{Net}
-use Rattle.atoms.specs.declared.nets.View as code
+use Rattle.atoms.specs.declared.nets.Net as code
+use Rattle.atoms.specs.declared.nets.View.{View}
 
--- The same atoms, neighbours and bonds.
-abbrev pub graph : code.View → Net
-graph net = record { n = net.n; adj = net.adj.now; touch = net.touch.now }
+-- a net
+abbrev pub graph : code.Net → Net
+graph net = record { n = net.n; adj = net.adj; touch = net.touch }
+
+-- a net as it is lent
+abbrev pub lent_graph : View → Net
+lent_graph net = record { n = net.n; adj = net.adj.now; touch = net.touch.now }

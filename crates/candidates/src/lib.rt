@@ -8,7 +8,7 @@
 ghost use Rattle.std.specs.Prelude.{◌≡◌, ◌/◌, ◌<◌, ◌≤◌, get_or};
 ghost use Rattle.model.specs.Loops.{seek as seek_of};
 ghost use Rattle.rows.specs.Values.{family_of};
-ghost use Rattle.candidates.specs.Nets.{graph};
+ghost use Rattle.candidates.specs.Nets.{lent_graph};
 ghost use Rattle.candidates.specs.Cursor.{Within};
 ghost use Rattle.candidates.specs.Engine.{put_size, attempted};
 
@@ -60,7 +60,7 @@ impl Going {
     )
         requires place { Place layers.now d }
         requires within { Within (get_or layers.now d 0) (f.p, f.q, f.x) }
-        ensures { Tries (attempted (graph net.entry) from layers.now d (family_of f))
+        ensures { Tries (attempted (lent_graph net.entry) from layers.now d (family_of f))
             self.old out.old sizes.old self.new out.new sizes.new }
     {
         let link = paths::link(net.touch, f.p, f.q, f.x);
@@ -94,7 +94,7 @@ impl Going {
         requires k_bound { k ≤ 64 }
         requires r_bound { r < 64 }
         requires place { Place layers.now (k / 2) }
-        ensures { Tries (seek_of (graph net.entry) (attempted (graph net.entry) from) k r layers.now)
+        ensures { Tries (seek_of (lent_graph net.entry) (attempted (lent_graph net.entry) from) k r layers.now)
             self.old out.old sizes.old self.new out.new sizes.new }
     {
         let d = (k - 1) / 2;

@@ -9,13 +9,14 @@ use lib.Seq.{get_or-append-add, get_or-take, get_or-drop}
 use Rattle.bondset.proofs.Laws.{lt_or_ge}
 use Rattle.cycles.specs.Compound.{Compound, cyclomatic}
 use Rattle.cycles.specs.Rows.{Row}
+use Rattle.cycles.specs.Refusal.{Accepted}
 use Rattle.answers.specs.Answered.{over, size_of}
-use Rattle.model.specs.Net.{net_of}
+use Rattle.model.specs.Net.{Net, net_of}
 use Rattle.model.specs.Run.{report}
 use Rattle.model.proofs.NetRead.{get_or_zeros}
 use Rattle.atoms.specs.declared.nets.Net as code
 use Rattle.atoms.specs.declared.nets.View.{View}
-use Rattle.candidates.specs.Nets.{graph}
+use Rattle.candidates.specs.Nets.{graph, lent_graph}
 use Rattle.candidates.specs.Engine.{Engine}
 use Rattle.engine.specs.declared.Found.{Found}
 use Rattle.engine.specs.Lengths.{run_by, Runs}
@@ -56,20 +57,24 @@ sizes_over_zeros from k rows j h =
 
 -- ---- a run
 
--- A net that stands is, as it is lent, that of the compound.
-stands_net : {c : Compound} {net : code.Net} (view : View) → Stands c net → view.n ≡ net.n → view.adj.now ≡ net.adj
-    → view.touch.now ≡ net.touch → graph view ≡ net_of c
+-- A net that stands is the compound's.
+stands_net : {c : Compound} {net : code.Net} → Stands c net → graph net ≡ net_of c
 unfolding net_of
-stands_net view s n adj touch = rw (n, adj, touch, s.atoms, s.neighbours, s.bonds)
+stands_net s = rw (s.atoms, s.neighbours, s.bonds)
 
--- A run on an accepted compound reports it.
-pub run_reports : {c : Compound} {net : code.Net} (view : View) {from full : ℕ} {out table sizes out' table' sizes' : List ℕ} {r : Found}
-    → Stands c net → view.n ≡ net.n → view.adj.now ≡ net.adj → view.touch.now ≡ net.touch → full ≡ cyclomatic c
-    → Runs (graph view) from full out table sizes r out' table' sizes' → Reports c from out table sizes r out' table' sizes'
-run_reports {c} {net} view {from} {full} {out} {table} {sizes} {out'} {table'} {sizes'} {r} s n adj touch e runs =
+-- It is the compound's as it is lent, too.
+lent_stands_net : {c : Compound} {net : code.Net} (view : View) → Stands c net → view.n ≡ net.n → view.adj.now ≡ net.adj
+    → view.touch.now ≡ net.touch → lent_graph view ≡ net_of c
+lent_stands_net view s n adj touch = rw (n, adj, touch) (stands_net s)
+
+-- A run on the net of an accepted compound reports it.
+net_run_reports : {c : Compound} {G : Net} {from full : ℕ} {out table sizes out' table' sizes' : List ℕ} {r : Found}
+    → Accepted c → G ≡ net_of c → full ≡ cyclomatic c → Runs G from full out table sizes r out' table' sizes'
+    → Reports c from out table sizes r out' table' sizes'
+net_run_reports {c} {G} {from} {full} {out} {table} {sizes} {out'} {table'} {sizes'} {r} accepted g e runs =
     let E : Engine = run_by (net_of c) from (cyclomatic c) out table sizes in
-    let run : Runs (net_of c) from (cyclomatic c) out table sizes r out' table' sizes' = rw (stands_net view s n adj touch, e) at runs in
-    let ran : Ran out table sizes from (report c) E = engine_ran c s.accepted out table sizes from in
+    let run : Runs (net_of c) from (cyclomatic c) out table sizes r out' table' sizes' = rw (g, e) at runs in
+    let ran : Ran out table sizes from (report c) E = engine_ran c accepted out table sizes from in
     record {
       families = run.families ∙ ran.families;
       classes = run.classes ∙ ran.classes;
@@ -84,3 +89,15 @@ run_reports {c} {net} view {from} {full} {out} {table} {sizes} {out'} {table'} {
       table_kept = ap length run.class_rows ∙ ran.table_long;
       sizes_kept = ap length run.sized ∙ ran.sizes_long;
     }
+
+-- So does a run on a net that stands,
+pub run_reports : {c : Compound} {net : code.Net} {from full : ℕ} {out table sizes out' table' sizes' : List ℕ} {r : Found}
+    → Stands c net → full ≡ cyclomatic c → Runs (graph net) from full out table sizes r out' table' sizes'
+    → Reports c from out table sizes r out' table' sizes'
+run_reports s e runs = net_run_reports s.accepted (stands_net s) e runs
+
+-- and one on a net that stands, as it is lent.
+pub lent_run_reports : {c : Compound} {net : code.Net} (view : View) {from full : ℕ} {out table sizes out' table' sizes' : List ℕ} {r : Found}
+    → Stands c net → view.n ≡ net.n → view.adj.now ≡ net.adj → view.touch.now ≡ net.touch → full ≡ cyclomatic c
+    → Runs (lent_graph view) from full out table sizes r out' table' sizes' → Reports c from out table sizes r out' table' sizes'
+lent_run_reports view s n adj touch e runs = net_run_reports s.accepted (lent_stands_net view s n adj touch) e runs

@@ -12,12 +12,10 @@ use Rattle.model.specs.Net.{Net, preceding}
 use Rattle.model.specs.Layer.{layers_into}
 use Rattle.model.specs.Loops.{Running, running, seek, top_loop, length_loop, length_round}
 use Rattle.atoms.specs.Nets.{neighbours}
-use Rattle.atoms.specs.declared.nets.View as code
 use Rattle.atoms.proofs.Loops.{Upto, upto_start, upto_next}
 use Rattle.search.proofs.Same.{layers_into_same}
 use Rattle.ledger.specs.Ledger.{Ledger, settled_in, unmarked}
 use Rattle.candidates.specs.declared.Going.{Going}
-use Rattle.candidates.specs.Nets.{graph}
 use Rattle.candidates.specs.Engine.{Engine, attempted}
 use Rattle.candidates.specs.Going.{engine_of, Tries}
 use Rattle.engine.specs.declared.Found.{Found}
@@ -27,18 +25,15 @@ use Rattle.engine.specs.Lengths.{settled_by, round_by, begun, run_by, running_of
 -- ---- one top atom
 
 -- The layers are written, and then the candidates are tried.
-pub top_is : (net : code.View) (from k r : ℕ) {before after : Going} (us out table sizes : List ℕ) {us' out' sizes' : List ℕ}
-    → us' ≡ layers_into (neighbours net.adj.now) (preceding r) r (k / 2) us
-    → Tries (seek (graph net) (attempted (graph net) from) k r us') before out sizes after out' sizes'
-    → running us' (engine_of after out' table sizes') ≡ top_loop (graph net) (attempted (graph net) from) preceding k r (running us (engine_of before out table sizes))
+pub top_is : (G : Net) (from k r : ℕ) {before after : Going} (us out table sizes : List ℕ) {us' out' sizes' : List ℕ}
+    → us' ≡ layers_into (neighbours G.adj) (preceding r) r (k / 2) us
+    → Tries (seek G (attempted G from) k r us') before out sizes after out' sizes'
+    → running us' (engine_of after out' table sizes') ≡ top_loop G (attempted G from) preceding k r (running us (engine_of before out table sizes))
 unfolding top_loop
-top_is net from k r {before} us out table sizes {us'} e tries =
+top_is G from k r {before} us out table sizes {us'} e tries =
     ap (λ (E : Engine). running us' E) (tries.is table)
     ∙ ap (λ (us : List ℕ). running us (seek G (attempted G from) k r us (engine_of before out table sizes)))
     (e ∙ layers_into_same G (preceding r) r (k / 2) us)
-  where
-    G : Net
-    G = graph net
 
 -- ---- one length
 

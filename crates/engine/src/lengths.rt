@@ -4,7 +4,7 @@ ghost use Rattle.model.specs.Net.{preceding};
 ghost use Rattle.model.specs.Layer.{layers_into};
 ghost use Rattle.model.specs.Loops.{tops as tops_of};
 ghost use Rattle.atoms.specs.Nets.{neighbours};
-ghost use Rattle.candidates.specs.Nets.{graph};
+ghost use Rattle.candidates.specs.Nets.{lent_graph};
 ghost use Rattle.candidates.specs.Going.{Place};
 ghost use Rattle.engine.specs.Lengths.{Runs};
 
@@ -24,7 +24,7 @@ struct Task<'a> {
     full: usize,
     /// The first row whose size is asked for.
     from: usize,
-    ghost all_tops: { tops ≡ tops_of (graph net) preceding },
+    ghost all_tops: { tops ≡ tops_of (lent_graph net) preceding },
 }
 
 /// Writes the layers 0 to `depth` under `r`.
@@ -57,7 +57,7 @@ impl Running {
         requires le_k { 3 ≤ k }
         requires k_bound { k ≤ 64 }
         ensures { running_of self.new out.new table.new sizes.new
-            ≡ round_by (graph task.now.net) task.now.from task.now.full k (running_of self.old out.old table.old sizes.old) }
+            ≡ round_by (lent_graph task.now.net) task.now.from task.now.full k (running_of self.old out.old table.old sizes.old) }
     {
         if self.going.ledger.classes.tally.marks >= task.full {
             return;
@@ -82,7 +82,7 @@ pub fn run(
     table: &mut [u8],
     sizes: &mut [u64],
 ) -> Found
-    ensures { Runs (graph net.entry) from full out.old table.old sizes.old
+    ensures { Runs (lent_graph net.entry) from full out.old table.old sizes.old
         result out.new table.new sizes.new }
 {
     let task = Task {

@@ -3,7 +3,7 @@ use Rattle.bondset.specs.Sets.{value}
 use Rattle.bondset.specs.Rows.{flat}
 use Rattle.bondset.proofs.Laws.{words_lt}
 use Rattle.bondset.proofs.ReductionModel.{reduces_none, reduces_end}
-use Rattle.bondset.proofs.IndexReduce.{reduces_by}
+use Rattle.bondset.proofs.IndexReduce.{reduces_reaching}
 use Rattle.bondset.proofs.indexed.reduce.Goals as goal
 
 pub returns-then-to-from : goal.returns-then-to-from
@@ -16,5 +16,5 @@ returns-then-to-from c =
 pub returns : goal.returns
 returns c =
     let x = c.args.index in
-    reduces_by c.requires.reaches (words_lt 64 x.fresh.hi x.fresh.lo (omega arith) (omega arith)) (words_lt 64 x.late.hi x.late.lo (omega arith) (omega arith))
+    reduces_reaching c.requires.reaches (words_lt 64 x.fresh.hi x.fresh.lo (omega arith) (omega arith)) (words_lt 64 x.late.hi x.late.lo (omega arith) (omega arith))
     c.intersection-hits.ensures c.add_placed-w.ensures c.add_late.ensures

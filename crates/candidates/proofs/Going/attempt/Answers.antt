@@ -2,6 +2,7 @@
 use Rattle.std.proofs.Common.{◌≡◌, ◌*◌, arith, sym, ◌∙◌}
 use Rattle.bondset.specs.Sets.{value}
 use Rattle.rows.specs.Values.{family_of}
+use Rattle.candidates.specs.Nets.{lent_graph}
 use Rattle.candidates.specs.Engine.{size_in}
 use Rattle.candidates.proofs.Kept.{added_few, attempt_none, attempt_kept}
 use Rattle.candidates.proofs.Going.attempt.Goals.{in-Some, in-None}
@@ -10,7 +11,7 @@ use Rattle.candidates.proofs.Going.attempt.Goals as goal
 pub returns-then-is_empty : goal.returns-then-is_empty
 returns-then-is_empty c =
     let a = c.args in
-    attempt_none a.net a.from a.layers.now a.d (family_of a.f) a.self.now a.out.now a.sizes.now
+    attempt_none (lent_graph a.net) a.from a.layers.now a.d (family_of a.f) a.self.now a.out.now a.sizes.now
     (value c.link-link.result) (value c.walk-ring.result) (value c.reduce-left.result.rest) (value c.reduce-left.result.used)
     (c.link-link.ensures a.f.k a.f.r) c.walk-ring.ensures c.reduce-left.ensures (sym c.is_empty.ensures.empty ∙ c.if-is_empty.true)
 
@@ -24,7 +25,7 @@ returns c =
     let size : c.match-self.size ≡ size_in c.add-self.result (ways.result.from_p * ways.result.from_q) =
     elim c.match-self.branch [ in-Some w ↦ rw w.in-Some.is w.size-is | in-None w ↦ rw w.in-None.is w.size-is ]
     in
-    attempt_kept a.net a.from a.layers.now a.d (family_of a.f) a.self.now a.out.now a.sizes.now
+    attempt_kept (lent_graph a.net) a.from a.layers.now a.d (family_of a.f) a.self.now a.out.now a.sizes.now
     (value c.link-link.result) (value c.walk-ring.result) (value c.reduce-left.result.rest) (value c.reduce-left.result.used)
     (c.link-link.ensures a.f.k a.f.r) c.walk-ring.ensures c.reduce-left.ensures (sym c.is_empty.ensures.empty ∙ c.if-is_empty.false)
     ways.result.from_p ways.result.from_q _ _ _ ways.ensures.one ways.ensures.other c.add-self.ensures (rw (← size) c.put_size.ensures) c.enter.ensures.is
